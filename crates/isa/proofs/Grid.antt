@@ -1,0 +1,34 @@
+-- A row as the code keeps it, 12 numbers in a line, and as the definition has it.
+use Prim.Native.Nat.{ℕ, _+_, _*_, _/_, _%_}
+use mathlib.Core.Path.{_≡_, sym}
+use mathlib.Core.List.{List, [], _∷_, map}
+use lib.ListN.{getD, List·getD-map}
+use Rattle.isa.specs.Table.{rows, blank}
+use Rattle.isa.specs.declared.table.Row.{Row}
+
+abbrev columns : Row → List ℕ
+columns r =
+    r .mnemonic ∷ r .evex ∷ r .pp ∷ r .map ∷ r .opcode ∷ r .w ∷ r .least ∷ (r .immediate + 2 * r .first) ∷ r .element ∷ r .broadcast
+    ∷ r .needs ∷ r .needs256 ∷ []
+
+abbrev toRow : List ℕ → Row
+toRow t =
+    record {
+      mnemonic = getD t 0 0;
+      evex = getD t 1 0;
+      pp = getD t 2 0;
+      map = getD t 3 0;
+      opcode = getD t 4 0;
+      w = getD t 5 0;
+      least = getD t 6 0;
+      immediate = getD t 7 0 % 2;
+      first = getD t 7 0 / 2;
+      element = getD t 8 0;
+      broadcast = getD t 9 0;
+      needs = getD t 10 0;
+      needs256 = getD t 11 0;
+    }
+
+pub row-is : (i : ℕ) → toRow (getD (map columns rows) i []) ≡ getD rows i blank
+unfolding rows
+row-is i = sym (List·getD-map toRow (map columns rows) i [])

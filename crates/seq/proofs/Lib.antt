@@ -1,0 +1,3 @@
+-- Lemmas that the other crates' proofs cite.
+pub mod Cases
+pub mod Choice

@@ -1,0 +1,2 @@
+-- What the other crates' definitions are written with.
+pub mod Choice
