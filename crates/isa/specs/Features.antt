@@ -22,5 +22,5 @@ AVX512VBMI = 4
 abbrev pub featuresKnown : ℕ → Bool
 featuresKnown features = leb features 31
 
-abbrev pub hasFeature : ℕ → ℕ → Bool
+unfoldable pub hasFeature : ℕ → ℕ → Bool
 hasFeature features bit = eqb (features / 2 ^ bit % 2) 1

@@ -1,0 +1,2 @@
+-- The rules that the stages' proofs hand to `search`.
+mod Compose
