@@ -1,2 +1,4 @@
--- The rules that the stages' proofs hand to `search`.
+-- The rules that the stages' proofs hand to `search`, and the laws of decoding, which other crates cite.
 mod Compose
+pub mod Laws
+pub mod Ranges
