@@ -1,0 +1,41 @@
+-- What each function of the C interface gives, by what its callees gave.
+use Prim.Native.Nat.{ℕ, _*_}
+use mathlib.Core.Path.{_≡_, _∙_, sym}
+use mathlib.Core.List.{List}
+use native.Mathlib.Omega.{arith}
+use mir.Val.{Fits}
+use mir.Syntax.{w32}
+use Rattle.isa.specs.Operands.{mnemonicNumber, widthBytes}
+use Rattle.isa.specs.Refusal.{statusOf}
+use Rattle.isa.specs.declared.refusal.Refusal.{Refusal}
+use Rattle.decode.specs.Instruction.{wantedOf}
+use Rattle.decode.specs.Decode.{decodeOf}
+use Rattle.decode.proofs.Laws.{accepted-size}
+use Rattle.decode.specs.declared.instruction.Instruction.{Instruction}
+use Rattle.decode.specs.declared.instruction.Decoded.{Decoded}
+use Rattle.decode.specs.declared.instruction.Decoded.the-variants.{Accepted, Refused}
+use Rattle.tarhuspo.specs.Decoded.{evexOf, firstOf, thirdOf, hasImmediate, immediateOf, flag, acceptedOf, refusedOf, decodedOf}
+use Rattle.tarhuspo.specs.declared.TarhuspoDecoded.{TarhuspoDecoded}
+
+pub refused-is : (why : Refusal) (s : ℕ) → s ≡ statusOf why
+    → _≡_ {A = TarhuspoDecoded} (record { status = s; length = 0; memory = 0; mnemonic = 0; bits = 0; evex = 0; destination = 0; first = 0; third = 0; mask = 0; zeroing = 0; broadcast = 0; «has_immediate» = 0; immediate = 0 }) (refusedOf why)
+unfolding refusedOf
+refused-is why s p = rw p
+
+pub accepted-is : (i : Instruction) (n m a b e d f t k z c h v : ℕ)
+    → m ≡ wantedOf (i .third) → a ≡ mnemonicNumber (i .mnemonic) → b ≡ widthBytes (i .width) → e ≡ evexOf (i .encoding) → d ≡ i .destination .0
+    → f ≡ firstOf (i .first) → t ≡ thirdOf (i .third) → k ≡ i .mask .0 → z ≡ flag (i .zeroing) → c ≡ flag (i .broadcast)
+    → h ≡ hasImmediate (i .immediate) → v ≡ immediateOf (i .immediate)
+    → _≡_ {A = TarhuspoDecoded} (record { status = 0; length = n; memory = m; mnemonic = a; bits = b * 8; evex = e; destination = d; first = f; third = t; mask = k; zeroing = z; broadcast = c; «has_immediate» = h; immediate = v }) (acceptedOf i n)
+unfolding acceptedOf
+accepted-is i n m a b e d f t k z c h v pm pa pb pe pd pf pt pk pz pc ph pv = rw (pm, pa, pb, pe, pd, pf, pt, pk, pz, pc, ph, pv)
+
+module _ (code : List ℕ) (features : ℕ) (k : Decoded) (p : k ≡ decodeOf code features) where
+  pub fits-length : (i : Instruction) → k ≡ Accepted i → Fits w32 (i .length)
+  fits-length i q = record { fits = omega (arith, accepted-size code features i (sym p ∙ q) .most) }
+
+  pub gives-accepted : (i : Instruction) → k ≡ Accepted i → (r : TarhuspoDecoded) → r ≡ acceptedOf i (i .length) → r ≡ decodedOf (decodeOf code features)
+  gives-accepted i q r e = rw (← p, q) e
+
+  pub gives-refused : (why : Refusal) → k ≡ Refused why → (r : TarhuspoDecoded) → r ≡ refusedOf why → r ≡ decodedOf (decodeOf code features)
+  gives-refused why q r e = rw (← p, q) e

@@ -1,0 +1,2 @@
+-- The rules that the proofs hand to `search`.
+mod Compose

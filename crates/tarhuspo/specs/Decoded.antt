@@ -1,0 +1,82 @@
+-- A decoding as the C interface gives it: document 01's answer, and the operands as numbers. A refusal has no other number than its answer.
+use Prim.Native.Nat.{ℕ, _*_}
+use mathlib.Core.Bool.{Bool}
+use Rattle.seq.specs.Choice.{if_then_else_}
+use Rattle.isa.specs.Operands.{mnemonicNumber, widthBytes}
+use Rattle.isa.specs.Refusal.{statusOf}
+use Rattle.isa.specs.declared.operands.Encoding.{Encoding}
+use Rattle.isa.specs.declared.operands.Encoding.the-variants.{Vex, Evex}
+use Rattle.isa.specs.declared.refusal.Refusal.{Refusal}
+use Rattle.decode.specs.Instruction.{wantedOf}
+use Rattle.decode.specs.declared.instruction.First.{First}
+use Rattle.decode.specs.declared.instruction.Third.{Third}
+use Rattle.decode.specs.declared.instruction.Immediate.{Immediate}
+use Rattle.decode.specs.declared.instruction.Instruction.{Instruction}
+use Rattle.decode.specs.declared.instruction.Decoded.{Decoded}
+use Rattle.decode.specs.declared.instruction.Decoded.the-variants.{Accepted, Refused}
+use Rattle.tarhuspo.specs.declared.TarhuspoDecoded.{TarhuspoDecoded}
+
+abbrev pub evexOf : Encoding → ℕ
+evexOf Vex = 0
+evexOf Evex = 1
+
+abbrev pub firstOf : First → ℕ
+firstOf (First.Register r) = r .0
+firstOf First.Absent = 0
+
+abbrev pub thirdOf : Third → ℕ
+thirdOf (Third.Register r) = r .0
+thirdOf (Third.Memory bytes) = 0
+
+abbrev pub hasImmediate : Immediate → ℕ
+hasImmediate (Immediate.Byte b) = 1
+hasImmediate Immediate.Absent = 0
+
+abbrev pub immediateOf : Immediate → ℕ
+immediateOf (Immediate.Byte b) = b
+immediateOf Immediate.Absent = 0
+
+abbrev pub flag : Bool → ℕ
+flag set = if set then 1 else 0
+
+unfoldable pub acceptedOf : Instruction → ℕ → TarhuspoDecoded
+acceptedOf i length =
+    record {
+      status = 0;
+      length = length;
+      memory = wantedOf (i .third);
+      mnemonic = mnemonicNumber (i .mnemonic);
+      bits = widthBytes (i .width) * 8;
+      evex = evexOf (i .encoding);
+      destination = i .destination .0;
+      first = firstOf (i .first);
+      third = thirdOf (i .third);
+      mask = i .mask .0;
+      zeroing = flag (i .zeroing);
+      broadcast = flag (i .broadcast);
+      «has_immediate» = hasImmediate (i .immediate);
+      immediate = immediateOf (i .immediate);
+    }
+
+unfoldable pub refusedOf : Refusal → TarhuspoDecoded
+refusedOf why =
+    record {
+      status = statusOf why;
+      length = 0;
+      memory = 0;
+      mnemonic = 0;
+      bits = 0;
+      evex = 0;
+      destination = 0;
+      first = 0;
+      third = 0;
+      mask = 0;
+      zeroing = 0;
+      broadcast = 0;
+      «has_immediate» = 0;
+      immediate = 0;
+    }
+
+abbrev pub decodedOf : Decoded → TarhuspoDecoded
+decodedOf (Accepted i) = acceptedOf i (i .length)
+decodedOf (Refused why) = refusedOf why

@@ -1,0 +1,2 @@
+-- What the C interface's structs hold.
+pub mod Decoded
