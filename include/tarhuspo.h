@@ -1,0 +1,76 @@
+/*
+ * Tarhuspo: a proved decoder of AVX permute instructions (64-bit code, VEX and EVEX encodings).
+ *
+ * Link with target/staticlib/libtarhuspo.a, which `rt staticlib tarhuspo` builds for x86-64.
+ *
+ * For every caller:
+ *  - A pointer must not be null, also where its length is 0, and must be valid for that length.
+ *  - Buffers of one call must not overlap, and nothing may write to them during the call.
+ *  - Nothing else is asked. Every content and every length is allowed and has a defined answer.
+ *  - No function allocates, keeps a pointer after it returns, or has state of its own, so that
+ *    any number of threads may call at once.
+ */
+#ifndef TARHUSPO_H
+#define TARHUSPO_H
+
+#include <stddef.h>
+#include <stdint.h>
+
+#ifdef __cplusplus
+extern "C" {
+#endif
+
+/* Processor features: add those that the processor has. */
+#define TARHUSPO_AVX UINT32_C(1)
+#define TARHUSPO_AVX2 UINT32_C(2)
+#define TARHUSPO_AVX512F UINT32_C(4)
+#define TARHUSPO_AVX512VL UINT32_C(8)
+#define TARHUSPO_AVX512_VBMI UINT32_C(16)
+
+/*
+ * A decoded instruction.
+ *
+ * status is 0 if the instruction is accepted. Otherwise it says what is wrong, and every other
+ * field is 0. The first of these that applies is given:
+ *
+ *  1  features is over 31.
+ *  2  There is no byte.
+ *  3  The first byte is not C4, C5 or 62 (hexadecimal, as below).
+ *  2  The bytes end before the opcode does.
+ *  4  EVEX: bit 3 or 2 of the second byte is not 0, or bit 2 of the third is not 1.
+ *  3  No supported instruction has this prefix kind, pp, map and opcode, and under EVEX this W.
+ *  2  The bytes end before the instruction does.
+ *  4  A reserved field is wrong (the processor raises #UD): VEX W is 1 where it must be 0,
+ *     VPERM2F128 has 128 bits, the EVEX width is 3, vvvv or V' is not all ones in a form without
+ *     a first source, the broadcast bit is set with a register as third operand or on VPERMB, or
+ *     zeroing is set without an opmask.
+ *  5  The instruction needs a feature that features does not have (#UD).
+ */
+typedef struct {
+    uint32_t status;        /* 0 accepted, or 1 to 5 as above */
+    uint32_t length;        /* bytes of the instruction; those behind are ignored */
+    uint32_t memory;        /* bytes that the memory operand has, 0 for a register form */
+    uint32_t mnemonic;      /* 1 VPERMILPD, 2 VPERMB, 3 VUNPCKLPS, 4 VPSHUFD, 5 VPERM2F128 */
+    uint32_t bits;          /* vector width: 128, 256 or 512 */
+    uint32_t evex;          /* 1 for an EVEX encoding, 0 for VEX */
+    uint32_t destination;   /* destination register, 0 to 31 */
+    uint32_t first;         /* first source register, 0 where the form has none */
+    uint32_t third;         /* register of the third operand, 0 for a memory form */
+    uint32_t mask;          /* opmask register, 0 for none and under VEX */
+    uint32_t zeroing;       /* 1 if masked-off elements are zeroed, 0 if they are kept */
+    uint32_t broadcast;     /* 1 if the memory operand is one element for all */
+    uint32_t has_immediate; /* 1 if the form has an immediate byte */
+    uint32_t immediate;     /* the immediate byte, 0 where there is none */
+} tarhuspo_decoded;
+
+/*
+ * Decodes the instruction at the start of code, which has code_len bytes: none, or any number.
+ * Bytes after the instruction are not looked at. Writes to no memory but the result.
+ */
+tarhuspo_decoded tarhuspo_decode(const uint8_t *code, size_t code_len, uint32_t features);
+
+#ifdef __cplusplus
+}
+#endif
+
+#endif

@@ -1,0 +1,9 @@
+//! Inputs for the proved library and the independent reference, and their comparison.
+//!
+//! The generator has its own copy of the instruction table and of the prefix layouts. It shares no
+//! code with the library or the reference, so that a slip in one of the three shows.
+
+pub mod decoding;
+pub mod encoding;
+pub mod guard;
+pub mod random;

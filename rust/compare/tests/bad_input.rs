@@ -1,0 +1,82 @@
+//! Exact answers for inputs that a careless caller may pass.
+
+use compare::decoding::{library_fields, Fields};
+use compare::guard::Guarded;
+
+const ALL: u32 = 31;
+
+/// Decodes `code` between guard bytes, and sees that code and guard bytes stay.
+fn decode(code: &[u8], features: u32) -> Fields {
+    let mut buffer = Guarded::default();
+    let decoded = tarhuspo::decode(buffer.fill(code), features);
+    assert!(
+        buffer.is_unchanged(code),
+        "decoding {code:02X?} wrote to memory"
+    );
+    library_fields(decoded)
+}
+
+/// A refusal: the status, and 0 in every other field.
+fn refused(status: u32) -> Fields {
+    let mut fields = [0; 14];
+    fields[0] = status;
+    fields
+}
+
+#[test]
+fn empty_code_ends_too_soon() {
+    assert_eq!(decode(&[], ALL), refused(2));
+    assert_eq!(decode(&[], 0), refused(2));
+    assert_eq!(
+        library_fields(tarhuspo::decode(Default::default(), ALL)),
+        refused(2)
+    );
+}
+
+#[test]
+fn one_byte_is_a_prefix_or_no_instruction() {
+    for byte in 0..=u8::MAX {
+        let status = if matches!(byte, 0xC4 | 0xC5 | 0x62) {
+            2
+        } else {
+            3
+        };
+        assert_eq!(decode(&[byte], ALL), refused(status), "byte {byte:02X}");
+    }
+}
+
+#[test]
+fn fifteen_bytes_are_judged_by_their_start() {
+    assert_eq!(decode(&[0x90; 15], ALL), refused(3));
+    // Two-byte VEX prefix, opcode C5: no row.
+    assert_eq!(decode(&[0xC5; 15], ALL), refused(3));
+    // The fixed bit 2 of the third byte is 0.
+    assert_eq!(decode(&[0x62; 15], ALL), refused(4));
+    // The last 15 bytes of a longer buffer: VPERM2F128 of 128 bits, which does not exist.
+    let mut code = [0; 64];
+    code[49..].copy_from_slice(&[0xC4, 0xE3, 0x69, 6, 0xCB, 0x31, 0, 1, 2, 3, 4, 5, 6, 7, 8]);
+    assert_eq!(decode(&code[49..], ALL), refused(4));
+}
+
+#[test]
+fn long_code_is_decoded_from_its_start_alone() {
+    let mut code = vec![0; 100_000];
+    assert_eq!(decode(&code, ALL), refused(3));
+    code[..5].copy_from_slice(&[0xC5, 0xE9, 0x70, 0xCA, 0x1B]);
+    assert_eq!(decode(&code, ALL), refused(4));
+    code[..5].copy_from_slice(&[0xC5, 0xFD, 0x70, 0xCA, 0x1B]);
+    assert_eq!(decode(&code, 1), refused(5));
+    let accepted = [0, 5, 0, 4, 256, 0, 1, 0, 2, 0, 0, 0, 1, 0x1B];
+    assert_eq!(decode(&code, ALL), accepted);
+}
+
+#[test]
+fn unknown_features_are_refused_before_the_code_is_read() {
+    let accepted = [0xC5, 0xF9, 0x70, 0xCA, 0x1B];
+    let codes: [&[u8]; 5] = [&[], &[0x62], &accepted, &[0x90; 15], &[0; 100_000]];
+    for code in codes {
+        for features in [ALL + 1, 1 << 31, u32::MAX] {
+            assert_eq!(decode(code, features), refused(1), "features {features:#x}");
+        }
+    }
+}

@@ -1,0 +1,23 @@
+//! Independent reference for the permute handler.
+//!
+//! Written from document 01 and the manual pages alone, so that its answers can be compared with
+//! those of the proved library. The modules follow the order of document 01. Every function takes
+//! buffers of any length and content; a refusal is a status number and changes no byte.
+
+#![forbid(unsafe_code)]
+
+pub mod bytemap;
+pub mod decode;
+pub mod limits;
+pub mod listing;
+mod prefix;
+mod refusal;
+pub mod run;
+pub mod step;
+mod table;
+
+pub use bytemap::{apply, build, compose, Built};
+pub use decode::{decode, reserved_field, Decoded, Field};
+pub use listing::{listing, Listed};
+pub use run::{run, Ran};
+pub use step::{step, Stepped};

@@ -1,0 +1,63 @@
+//! Sizes and feature bits (document 01, "The handler's trade").
+
+use crate::refusal::Refusal;
+
+/// Bytes of one register.
+pub const REGISTER_SIZE: usize = 64;
+/// Bytes of the register file: 32 registers.
+pub const FILE_SIZE: usize = 2_048;
+/// Opmask registers.
+pub const MASK_COUNT: usize = 8;
+/// Bytes of one lane.
+pub const LANE_SIZE: usize = 16;
+/// Most bytes of a list.
+pub const CODE_LIMIT: usize = 4_096;
+/// Entries of a byte map (document 01: route sheet), one for each byte of the file.
+pub const MAP_SIZE: usize = FILE_SIZE;
+/// The byte map entry for a zero byte.
+pub const MAP_ZERO: u16 = 2_048;
+/// Least bytes of the listing's text.
+pub const TEXT_SIZE: usize = 25_624;
+
+/// Feature bits.
+pub mod feature {
+    pub const AVX: u32 = 1 << 0;
+    pub const AVX2: u32 = 1 << 1;
+    pub const AVX512F: u32 = 1 << 2;
+    pub const AVX512VL: u32 = 1 << 3;
+    pub const AVX512_VBMI: u32 = 1 << 4;
+    /// All of them, the greatest feature number there is.
+    pub const ALL: u32 = 31;
+}
+
+/// Answer 1 for the features.
+pub(crate) fn check_features(features: u32) -> Result<(), Refusal> {
+    if features > feature::ALL {
+        return Err(Refusal::Size);
+    }
+    Ok(())
+}
+
+/// Answer 1 for opmasks and features.
+pub(crate) fn check_masks(masks: &[u64], features: u32) -> Result<(), Refusal> {
+    if masks.len() != MASK_COUNT {
+        return Err(Refusal::Size);
+    }
+    check_features(features)
+}
+
+/// Answer 1 for register file, opmasks and features.
+pub(crate) fn check_state(file: &[u8], masks: &[u64], features: u32) -> Result<(), Refusal> {
+    if file.len() != FILE_SIZE {
+        return Err(Refusal::Size);
+    }
+    check_masks(masks, features)
+}
+
+/// Answer 8.
+pub(crate) fn check_code(code: &[u8]) -> Result<(), Refusal> {
+    if code.len() > CODE_LIMIT {
+        return Err(Refusal::CodeLimit);
+    }
+    Ok(())
+}

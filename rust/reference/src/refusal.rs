@@ -1,0 +1,53 @@
+//! The numbered refusals (document 01, "When the handler says no").
+
+use crate::decode::Field;
+
+/// The status of an accepted input.
+pub(crate) const DONE: u32 = 0;
+
+#[derive(Debug, Clone, Copy, PartialEq, Eq)]
+pub(crate) enum Refusal {
+    /// A buffer has the wrong size, or the features exceed 31.
+    Size,
+    /// The bytes end inside an instruction.
+    Short,
+    /// No row of the instruction table.
+    NoRow,
+    /// A reserved field has a wrong value.
+    Reserved(Field),
+    /// A needed feature is missing.
+    Feature,
+    /// The memory operand has the wrong length.
+    Memory,
+    /// A byte map cannot describe the step.
+    Unmappable,
+    /// The list is too long.
+    CodeLimit,
+    /// A byte map to be read has an entry over 2,048.
+    MapEntry,
+}
+
+impl Refusal {
+    /// Document 01's number.
+    pub(crate) fn number(self) -> u32 {
+        match self {
+            Refusal::Size => 1,
+            Refusal::Short => 2,
+            Refusal::NoRow => 3,
+            Refusal::Reserved(_) => 4,
+            Refusal::Feature => 5,
+            Refusal::Memory => 6,
+            Refusal::Unmappable => 7,
+            Refusal::CodeLimit => 8,
+            Refusal::MapEntry => 9,
+        }
+    }
+}
+
+/// The status of an outcome that carries nothing else.
+pub(crate) fn status(outcome: Result<(), Refusal>) -> u32 {
+    match outcome {
+        Ok(()) => DONE,
+        Err(refusal) => refusal.number(),
+    }
+}

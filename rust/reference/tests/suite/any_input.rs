@@ -1,0 +1,123 @@
+//! Inputs of every kind: no panic, and a refusal changes nothing.
+
+use crate::sample::Sample;
+use crate::support::{Random, ALL};
+use reference::{apply, build, compose, decode, listing, reserved_field, run, step, Decoded};
+
+const SIZES: [usize; 8] = [0, 1, 2_047, 2_048, 2_048, 2_048, 2_049, 4_097];
+
+/// Bytes that look like instructions now and then: random, or an accepted one with one byte changed.
+fn code(random: &mut Random) -> Vec<u8> {
+    let mut code = Sample::random(random).encode();
+    match random.below(3) {
+        0 => {
+            let count = random.below(20);
+            code = random.bytes(count);
+        }
+        1 => {
+            let index = random.below(code.len());
+            code[index] = random.byte();
+        }
+        _ => code.truncate(random.below(13)),
+    }
+    if random.below(50) == 0 {
+        code = code.repeat(600);
+    }
+    code
+}
+
+fn features(random: &mut Random) -> u32 {
+    match random.below(8) {
+        0 => random.word() as u32,
+        1 => random.below(33) as u32,
+        _ => ALL,
+    }
+}
+
+fn masks(random: &mut Random) -> Vec<u64> {
+    let count = random.pick(&[8, 8, 8, 7, 9]);
+    (0..count).map(|_| random.word()).collect()
+}
+
+fn map(random: &mut Random) -> Vec<u16> {
+    let limit = random.pick(&[2_049, 2_049, 2_050, 65_536]);
+    let count = random.pick(&SIZES);
+    (0..count).map(|_| random.below(limit) as u16).collect()
+}
+
+#[test]
+fn decoding_and_stepping() {
+    let mut random = Random(10);
+    for _ in 0..20_000 {
+        let code = code(&mut random);
+        let features = features(&mut random);
+        let masks = masks(&mut random);
+        let decoded = decode(&code, features);
+        assert_eq!(
+            reserved_field(&code, features).is_some(),
+            decoded.status == 4
+        );
+        assert!(decoded.status <= 5 && decoded.length as usize <= code.len());
+        if decoded.status != 0 {
+            let status = decoded.status;
+            assert_eq!(
+                decoded,
+                Decoded {
+                    status,
+                    ..Decoded::default()
+                }
+            );
+        }
+        let size = random.pick(&SIZES);
+        let start = random.bytes(size);
+        let given = random.pick(&[0, decoded.memory as usize]);
+        let mut file = start.clone();
+        let stepped = step(&code, &mut file, &masks, features, &random.bytes(given));
+        assert!(stepped.status <= 6);
+        if stepped.status != 0 {
+            assert_eq!(stepped.length, 0);
+            assert!(file == start);
+        }
+    }
+}
+
+#[test]
+fn running_building_and_listing() {
+    let mut random = Random(11);
+    for _ in 0..5_000 {
+        let code = code(&mut random);
+        let features = features(&mut random);
+        let masks = masks(&mut random);
+        let size = random.pick(&SIZES);
+        let mut file = random.bytes(size);
+        let ran = run(&code, &mut file, &masks, features, 1_024);
+        assert!(ran.place as usize <= code.len() && ran.steps <= ran.place / 4);
+        let start = map(&mut random);
+        let mut map = start.clone();
+        let built = build(&code, &masks, features, &mut map);
+        assert!(built.status <= 8 && built.place as usize <= code.len());
+        assert!(built.status == 0 || map == start);
+        let mut text = vec![0; random.pick(&[0, 25_623, 25_624, 25_625])];
+        let listed = listing(&code, &mut text);
+        assert_eq!(listed.written == 0, listed.status != 0);
+    }
+}
+
+#[test]
+fn applying_and_composing() {
+    let mut random = Random(12);
+    for _ in 0..1_000 {
+        let [first, second] = [map(&mut random), map(&mut random)];
+        let size = random.pick(&SIZES);
+        let start = random.bytes(size);
+        let mut file = start.clone();
+        let status = apply(&first, &mut file);
+        assert!([0, 1, 9].contains(&status));
+        assert!(status == 0 || file == start);
+        let before = map(&mut random);
+        let mut out = before.clone();
+        let status = compose(&first, &second, &mut out);
+        assert!([0, 1, 9].contains(&status));
+        assert!(status == 0 || out == before);
+    }
+}

@@ -1,0 +1,221 @@
+//! The operation texts of the manual pages, bit positions and all, against the step.
+
+use crate::sample::{Kind, Operand, Sample};
+use crate::support::{Random, ALL};
+use reference::{step, Stepped};
+
+/// Page 000: control bit of the immediate, destination, source for 0, source for 1.
+const VPERMILPD: [[usize; 4]; 8] = [
+    [0, 0, 0, 64],
+    [1, 64, 0, 64],
+    [2, 128, 128, 192],
+    [3, 192, 128, 192],
+    [4, 256, 256, 320],
+    [5, 320, 256, 320],
+    [6, 384, 384, 448],
+    [7, 448, 384, 448],
+];
+
+/// Page 000, variable versions: the control bit of each quadword.
+const VPERMILPD_CONTROL: [usize; 8] = [1, 65, 129, 193, 257, 321, 385, 449];
+
+/// Page 002: destination, source 1 or 2, bit of the source.
+const VUNPCKLPS: [[usize; 3]; 16] = [
+    [0, 1, 0],
+    [32, 2, 0],
+    [64, 1, 32],
+    [96, 2, 32],
+    [128, 1, 128],
+    [160, 2, 128],
+    [192, 1, 160],
+    [224, 2, 160],
+    [256, 1, 256],
+    [288, 2, 256],
+    [320, 1, 288],
+    [352, 2, 288],
+    [384, 1, 384],
+    [416, 2, 384],
+    [448, 1, 416],
+    [480, 2, 416],
+];
+
+/// Page 003: destination, lowest bit of the source's lane, lowest bit of the order field.
+const VPSHUFD: [[usize; 3]; 16] = [
+    [0, 0, 0],
+    [32, 0, 2],
+    [64, 0, 4],
+    [96, 0, 6],
+    [128, 128, 0],
+    [160, 128, 2],
+    [192, 128, 4],
+    [224, 128, 6],
+    [256, 256, 0],
+    [288, 256, 2],
+    [320, 256, 4],
+    [352, 256, 6],
+    [384, 384, 0],
+    [416, 384, 2],
+    [448, 384, 4],
+    [480, 384, 6],
+];
+
+/// A 512-bit register, addressed by bit.
+#[derive(Clone, Copy)]
+struct Register([u8; 64]);
+
+impl Register {
+    fn of(file: &[u8], number: u8) -> Register {
+        let start = 64 * usize::from(number);
+        Register(file[start..start + 64].try_into().unwrap())
+    }
+
+    fn bit(&self, index: usize) -> usize {
+        usize::from(self.0[index / 8] >> (index % 8)) & 1
+    }
+
+    /// DEST[to+bits-1:to] <- SRC[from+bits-1:from]
+    fn copy(&mut self, to: usize, source: &Register, from: usize, bits: usize) {
+        for j in 0..bits / 8 {
+            self.0[to / 8 + j] = source.0[from / 8 + j];
+        }
+    }
+}
+
+/// TMP_SRC2: the third operand, a broadcast element repeated.
+fn third(sample: &Sample, file: &[u8], memory: &[u8]) -> Register {
+    match sample.third {
+        Operand::Register(number) => Register::of(file, number),
+        Operand::Memory(..) => Register(std::array::from_fn(|i| memory[i % memory.len()])),
+    }
+}
+
+/// TMP_DEST at full width; the bits above VL are dropped by `write`.
+fn operate(sample: &Sample, first: &Register, third: &Register) -> Register {
+    let immediate = usize::from(sample.immediate);
+    let mut result = Register([0; 64]);
+    match sample.kind {
+        Kind::VpermilpdImmediate => {
+            for [bit, to, low, high] in VPERMILPD {
+                let from = if (immediate >> bit) & 1 == 0 {
+                    low
+                } else {
+                    high
+                };
+                result.copy(to, third, from, 64);
+            }
+        }
+        Kind::VpermilpdRegister => {
+            for ([_, to, low, high], control) in VPERMILPD.into_iter().zip(VPERMILPD_CONTROL) {
+                let from = if third.bit(control) == 0 { low } else { high };
+                result.copy(to, first, from, 64);
+            }
+        }
+        Kind::Vpermb => return vpermb(sample, first, third),
+        Kind::Vunpcklps => {
+            for [to, source, from] in VUNPCKLPS {
+                result.copy(to, if source == 1 { first } else { third }, from, 32);
+            }
+        }
+        Kind::Vpshufd => {
+            for [to, lane, order] in VPSHUFD {
+                result.copy(to, third, lane + 32 * ((immediate >> order) & 3), 32);
+            }
+        }
+        Kind::Vperm2f128 => return vperm2f128(immediate, first, third),
+    }
+    result
+}
+
+/// Page 001: id <- SRC1[j*8+n:j*8], with n of 3, 4, 5.
+fn vpermb(sample: &Sample, first: &Register, third: &Register) -> Register {
+    let n = 3 + usize::from(sample.width);
+    let mut result = Register([0; 64]);
+    for j in 0..sample.bytes() {
+        let id: usize = (0..=n).map(|k| first.bit(j * 8 + k) << k).sum();
+        result.copy(8 * j, third, 8 * id, 8);
+    }
+    result
+}
+
+/// Page 004, with document 01's reading of bit 7: it clears bits 255:128, and the rest always is.
+fn vperm2f128(immediate: usize, first: &Register, third: &Register) -> Register {
+    let mut result = Register([0; 64]);
+    let sources = [(first, 0), (first, 128), (third, 0), (third, 128)];
+    let (low, low_from) = sources[immediate & 3];
+    let (high, high_from) = sources[(immediate >> 4) & 3];
+    let zero = Register([0; 64]);
+    result.copy(0, low, low_from, 128);
+    result.copy(128, high, high_from, 128);
+    if immediate & 8 != 0 {
+        result.copy(0, &zero, 0, 128);
+    }
+    if immediate & 128 != 0 {
+        result.copy(128, &zero, 0, 128);
+    }
+    result
+}
+
+/// The loop over k1 and the clearing above VL, at the end of every operation text.
+fn write(sample: &Sample, masks: &[u64; 8], result: &Register, destination: &mut Register) {
+    let bits = 8 * sample.kind.element();
+    for j in 0..8 * sample.bytes() / bits {
+        let no_writemask = sample.mask == 0;
+        if no_writemask || masks[usize::from(sample.mask)] & (1 << j) != 0 {
+            destination.copy(j * bits, result, j * bits, bits);
+        } else if sample.zeroing {
+            destination.copy(j * bits, &Register([0; 64]), 0, bits);
+        }
+    }
+    destination.0[sample.bytes()..].fill(0);
+}
+
+fn model(sample: &Sample, file: &[u8], masks: &[u64; 8], memory: &[u8]) -> Vec<u8> {
+    let first = Register::of(file, sample.first);
+    let result = operate(sample, &first, &third(sample, file, memory));
+    let mut destination = Register::of(file, sample.destination);
+    write(sample, masks, &result, &mut destination);
+    let start = 64 * usize::from(sample.destination);
+    let mut after = file.to_vec();
+    after[start..start + 64].copy_from_slice(&destination.0);
+    after
+}
+
+#[test]
+fn steps_move_what_the_manual_says() {
+    let mut random = Random(1);
+    for _ in 0..20_000 {
+        let sample = Sample::random(&mut random);
+        let code = sample.encode();
+        let masks = random.masks();
+        let memory = random.bytes(sample.memory());
+        let start = random.file();
+        let mut file = start.clone();
+        let stepped = step(&code, &mut file, &masks, ALL, &memory);
+        let done = Stepped {
+            status: 0,
+            length: code.len() as u32,
+        };
+        assert_eq!(stepped, done, "{sample:?}");
+        assert!(
+            file == model(&sample, &start, &masks, &memory),
+            "{sample:?}"
+        );
+    }
+}
+
+#[test]
+fn a_destination_may_be_a_source() {
+    let mut random = Random(2);
+    for _ in 0..5_000 {
+        let mut sample = Sample::mappable(&mut random);
+        sample.third = Operand::Register(sample.destination);
+        if random.flag() {
+            sample.first = sample.destination;
+        }
+        let masks = random.masks();
+        let start = random.file();
+        let mut file = start.clone();
+        step(&sample.encode(), &mut file, &masks, ALL, &[]);
+        assert!(file == model(&sample, &start, &masks, &[]), "{sample:?}");
+    }
+}

@@ -1,0 +1,137 @@
+//! Running lists.
+
+use crate::sample::Sample;
+use crate::support::{varied_file, Random, ALL, OPEN};
+use reference::{run, step, Ran};
+
+const VUNPCKLPS: [u8; 4] = [0xC5, 0xE8, 0x14, 0xCB];
+const VPSHUFD: [u8; 5] = [0xC5, 0xF9, 0x70, 0xCA, 0x1B];
+
+fn ran(steps: u64, place: u64, status: u32) -> Ran {
+    Ran {
+        steps,
+        place,
+        status,
+    }
+}
+
+/// Runs and checks the answer and the file against the given single steps.
+fn check_run(code: &[u8], budget: u64, expected: Ran, steps: &[&[u8]]) {
+    let mut file = varied_file();
+    assert_eq!(run(code, &mut file, &OPEN, ALL, budget), expected);
+    let mut stepped = varied_file();
+    for code in steps {
+        assert_eq!(step(code, &mut stepped, &OPEN, ALL, &[]).status, 0);
+    }
+    assert_eq!(file, stepped);
+}
+
+#[test]
+fn empty_list() {
+    check_run(&[], 0, ran(0, 0, 0), &[]);
+    check_run(&[], 1_024, ran(0, 0, 0), &[]);
+}
+
+#[test]
+fn budgets() {
+    let code = [&VPSHUFD[..], &VUNPCKLPS, &VPSHUFD].concat();
+    check_run(&code, 0, ran(0, 0, 0), &[]);
+    check_run(&code, 1, ran(1, 5, 0), &[&VPSHUFD]);
+    check_run(&code, 2, ran(2, 9, 0), &[&VPSHUFD, &VUNPCKLPS]);
+    let all: [&[u8]; 3] = [&VPSHUFD, &VUNPCKLPS, &VPSHUFD];
+    check_run(&code, 3, ran(3, 14, 0), &all);
+    check_run(&code, u64::MAX, ran(3, 14, 0), &all);
+}
+
+#[test]
+fn a_refusal_keeps_the_steps_before_it() {
+    let memory_form = [0xC5, 0xF9, 0x70, 0x08, 0x1B];
+    let vvvv = [0xC5, 0xE9, 0x70, 0xCA, 0x1B];
+    let cases: [(&[u8], u32); 4] = [
+        (&VPSHUFD[..4], 2),
+        (&[0x90], 3),
+        (&vvvv, 4),
+        (&memory_form, 6),
+    ];
+    for (bad, status) in cases {
+        let code = [&VUNPCKLPS[..], bad].concat();
+        check_run(&code, 2, ran(1, 4, status), &[&VUNPCKLPS]);
+        check_run(&code, 1, ran(1, 4, 0), &[&VUNPCKLPS]);
+        check_run(&code, 0, ran(0, 0, 0), &[]);
+        check_run(bad, 1, ran(0, 0, status), &[]);
+    }
+}
+
+#[test]
+fn missing_features_stop_a_run() {
+    let wide = [0xC5, 0xFD, 0x70, 0xCA, 0x1B];
+    let code = [&VPSHUFD[..], &wide].concat();
+    let mut file = varied_file();
+    assert_eq!(run(&code, &mut file, &OPEN, 1, 9), ran(1, 5, 5));
+    // Missing features come before the memory form's 6.
+    let memory_form = [0xC5, 0xFD, 0x70, 0x08, 0x1B];
+    assert_eq!(run(&memory_form, &mut file, &OPEN, 1, 9), ran(0, 0, 5));
+}
+
+#[test]
+fn sizes_come_before_the_list_limit() {
+    let long = VUNPCKLPS.repeat(1_025);
+    for code in [&[][..], &VPSHUFD, &long] {
+        for budget in [0, 1] {
+            for size in [0, 2_047, 2_049] {
+                let mut file = vec![1; size];
+                assert_eq!(run(code, &mut file, &OPEN, ALL, budget), ran(0, 0, 1));
+                assert_eq!(file, vec![1; size]);
+            }
+            let mut file = varied_file();
+            assert_eq!(run(code, &mut file, &[0; 7], ALL, budget), ran(0, 0, 1));
+            assert_eq!(run(code, &mut file, &[0; 9], ALL, budget), ran(0, 0, 1));
+            assert_eq!(run(code, &mut file, &OPEN, 32, budget), ran(0, 0, 1));
+            assert_eq!(file, varied_file());
+        }
+    }
+}
+
+#[test]
+fn the_list_limit() {
+    let full = VUNPCKLPS.repeat(1_024);
+    let mut file = varied_file();
+    assert_eq!(
+        run(&full, &mut file, &OPEN, ALL, 1_024),
+        ran(1_024, 4_096, 0)
+    );
+    assert_eq!(
+        run(&full, &mut file, &OPEN, ALL, 1_023),
+        ran(1_023, 4_092, 0)
+    );
+    let over = [&full[..], &[0x90]].concat();
+    for budget in [0, 1] {
+        let mut file = varied_file();
+        assert_eq!(run(&over, &mut file, &OPEN, ALL, budget), ran(0, 0, 8));
+        assert_eq!(file, varied_file());
+    }
+}
+
+#[test]
+fn a_run_in_two_parts_is_one_run() {
+    let mut random = Random(5);
+    for _ in 0..300 {
+        let count = random.below(20);
+        let samples = (0..count).map(|_| Sample::random(&mut random).encode());
+        let code: Vec<u8> = samples.flatten().collect();
+        let masks = random.masks();
+        let start = random.file();
+        let [n, m] = [random.below(10) as u64, random.below(10) as u64];
+        let mut whole = start.clone();
+        let expected = run(&code, &mut whole, &masks, ALL, n + m);
+        let mut parts = start;
+        let first = run(&code, &mut parts, &masks, ALL, n);
+        if first.status != 0 {
+            continue;
+        }
+        let second = run(&code[first.place as usize..], &mut parts, &masks, ALL, m);
+        let [steps, place] = [first.steps + second.steps, first.place + second.place];
+        assert_eq!(ran(steps, place, second.status), expected);
+        assert!(parts == whole);
+    }
+}

@@ -1,0 +1,23 @@
+//! Safe Rust interface to Tarhuspo, a proved decoder of AVX permute instructions.
+//!
+//! All of the work is done by a static library written and proved in Rattle. This crate declares
+//! its C functions and turns slices into pointers and lengths. The proved functions accept every
+//! input, so nothing is checked here.
+//!
+//! ```
+//! use tarhuspo::{decode, features};
+//!
+//! let decoded = decode(&[0xC5, 0xF9, 0x70, 0xCA, 0x1B], features::ALL);
+//! assert_eq!(decoded.status, 0);
+//! assert_eq!(decoded.length, 5);
+//! ```
+
+mod decode;
+pub mod features;
+mod ffi;
+mod mnemonic;
+mod status;
+
+pub use decode::{decode, Decoded};
+pub use mnemonic::mnemonic_name;
+pub use status::describe;
