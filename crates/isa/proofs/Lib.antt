@@ -1,5 +1,5 @@
 -- Lemmas on the instruction table, and its rules, which other crates cite.
-mod Bits
+pub mod Bits
 mod Grid
 mod Search
 pub mod Rule

@@ -1,5 +1,6 @@
 // What an instruction's parts can be.
 ghost use mathlib.Core.Path.{_≡_};
+ghost use Prim.Native.Nat.{_<_};
 ghost use Rattle.isa.specs.Operands.{mnemonicOf, mnemonicNumber, widthOf, widthBytes, elementOf, elementBytes};
 
 pub enum Mnemonic {
@@ -123,7 +124,7 @@ impl Element {
     }
 
     pub fn bytes(self) -> u8
-        ensures { λ r. ⌜ r ≡ elementBytes self ⌝ }
+        ensures { λ r. ⌜ (r ≡ elementBytes self) × (0 < r) ⌝ }
     {
         match self {
             Element::Byte => 1,

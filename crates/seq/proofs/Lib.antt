@@ -1,3 +1,4 @@
 -- Lemmas that the other crates' proofs cite.
 pub mod Cases
 pub mod Choice
+pub mod Tabulate

@@ -1,2 +1,3 @@
 -- What the other crates' definitions are written with.
 pub mod Choice
+pub mod Tabulate

@@ -1,0 +1,26 @@
+-- A digit of a control is one of its four picks, or a bit of one.
+use Prim.Native.Nat.{ℕ, zero, suc, _+_, _*_, _/_, _%_, _^_, _<_}
+use mathlib.Core.Path.{_≡_, refl, _∙_, sym, ap}
+use native.Mathlib.Omega.{arith}
+use lib.ListN.{getD}
+use Rattle.moves.specs.Pick.{picks, digit}
+
+-- bits 2k+1:2k are pick k
+pub pick-at : (c k : ℕ) → k < 4 → getD (picks c) k 0 ≡ c / 2 ^ (2 * k) % 4
+pick-at c zero h = omega arith
+pick-at c (suc zero) h = refl
+pick-at c (suc (suc zero)) h = refl
+pick-at c (suc (suc (suc zero))) h = refl
+pick-at c (suc (suc (suc (suc k)))) h = absurd (omega arith)
+
+-- bit k is bit k % 2 of pick k / 2
+pub bit-at : (c k : ℕ) → k < 8 → getD (picks c) (k / 2) 0 / 2 ^ (k % 2) % 2 ≡ c / 2 ^ k % 2
+bit-at c zero h = omega arith
+bit-at c (suc zero) h = omega arith
+bit-at c (suc (suc zero)) h = omega arith
+bit-at c (suc (suc (suc zero))) h = omega arith
+bit-at c (suc (suc (suc (suc zero)))) h = omega arith
+bit-at c (suc (suc (suc (suc (suc zero))))) h = omega arith
+bit-at c (suc (suc (suc (suc (suc (suc zero)))))) h = omega arith
+bit-at c (suc (suc (suc (suc (suc (suc (suc zero))))))) h = omega arith
+bit-at c (suc (suc (suc (suc (suc (suc (suc (suc k)))))))) h = absurd (omega arith)

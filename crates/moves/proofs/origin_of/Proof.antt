@@ -1,0 +1,19 @@
+use borrow.Author.Needs.{needs}
+use Rattle.moves.proofs.Rules.{above, through, cleared, kept}
+use Rattle.moves.proofs.origin_of.Statement.{statement}
+use Rattle.moves.proofs.origin_of.Tie as tie
+
+pub origin-of-spec : {M : Type 1} → statement M
+origin-of-spec =
+    tie.close
+    (tie.spec
+    (λ c κs. search needs)
+    (λ c κs. search needs)
+    (λ c. search (needs, above, through, cleared, kept) depth 12)
+    (λ c. search needs)
+    (λ c κs. search needs)
+    (λ c κs. search needs)
+    (λ c κs. search needs)
+    (λ c. search (needs, above, through, cleared, kept) depth 12)
+    (λ c. search (needs, above, through, cleared, kept) depth 12)
+    (λ c. search (needs, above, through, cleared, kept) depth 12))

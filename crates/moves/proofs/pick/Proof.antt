@@ -1,0 +1,26 @@
+use borrow.Author.Needs.{needs}
+use Rattle.moves.proofs.Rules.{picks-immediate, picks-third, picks-first, picks-unpack, picks-lane}
+use Rattle.moves.proofs.pick.Statement.{statement}
+use Rattle.moves.proofs.pick.Tie as tie
+
+pub pick-spec : {M : Type 1} → statement M
+pick-spec =
+    tie.close
+    (tie.spec
+    (λ c. search needs)
+    (λ c κs. search needs)
+    (λ c. search needs)
+    (λ c κs. search needs)
+    (λ c. search needs)
+    (λ c κs. search needs)
+    (λ c. search needs)
+    (λ c κs. search needs)
+    (λ c κs. search needs)
+    (λ c. search needs)
+    (λ c κs. search needs)
+    (λ c κs. search needs)
+    (λ c. search (needs, picks-immediate, picks-third, picks-first, picks-unpack, picks-lane) depth 12)
+    (λ c. search (needs, picks-immediate, picks-third, picks-first, picks-unpack, picks-lane) depth 12)
+    (λ c. search (needs, picks-immediate, picks-third, picks-first, picks-unpack, picks-lane) depth 12)
+    (λ c. search (needs, picks-immediate, picks-third, picks-first, picks-unpack, picks-lane) depth 12)
+    (λ c. search (needs, picks-immediate, picks-third, picks-first, picks-unpack, picks-lane) depth 12))
