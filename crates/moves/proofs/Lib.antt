@@ -1,4 +1,5 @@
--- Lemmas that the proofs of the moves hand to `search`.
+-- Lemmas that the proofs of the moves hand to `search`, and those on the file after a step, which other crates cite.
 mod Sizes
 mod Digits
 mod Rules
+pub mod Placed

@@ -69,13 +69,12 @@ entryOf byte z x bits part file i =
     held z (registerAt z file (firstRegister (x .first))) (repeated z part) (registerAt z file (x .destination) i)
     (originOf x bits (controlOf byte z x part file i) i)
 
--- a file with new bytes in a register, and every other register as it was
-unfoldable pub placed : {A : Type 0} → A → List A → Reg → (ℕ → A) → ℕ → A
-placed z file r new p =
-    if eqb (p / registerBytes) (r .0 % registers) then new (p % registerBytes) else getD file p z
+-- a file with new bytes in register r, and every other register as it was
+unfoldable pub placed : {A : Type 0} → A → List A → ℕ → (ℕ → A) → ℕ → A
+placed z file r new p = if eqb (p / registerBytes) r then new (p % registerBytes) else getD file p z
 
 -- the file after the step. All of it is read from the file before the step
 unfoldable pub moved : {A : Type 0} → (A → ℕ) → A → Instruction → List ℕ → List A → List A → List A
 moved byte z x masks memory file =
     tabulate (length file)
-    (placed z file (x .destination) (entryOf byte z x (bitsOf masks (x .mask)) (thirdPart (x .third) memory file) file))
+    (placed z file (x .destination .0 % registers) (entryOf byte z x (bitsOf masks (x .mask)) (thirdPart (x .third) memory file) file))

@@ -1,0 +1,3 @@
+-- Lemmas that the proofs of the step hand to `search` or cite.
+mod FourLanes
+mod Rules

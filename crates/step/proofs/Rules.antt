@@ -1,0 +1,159 @@
+-- What each function of the step gives, by what its callees gave: a rule for each way it can return.
+use Prim.Native.Nat.{ℕ, _+_, _-_, _*_, _/_, _%_, _<_, _≤_}
+use mathlib.Core.Path.{_≡_, refl, _∙_, sym, ap}
+use mathlib.Core.List.{List, []}
+use native.Mathlib.Omega.{arith}
+use native.Mathlib.Nat.{mod-eq-of-lt}
+use lib.ListN.{length, getD, take, drop, List·getD-eq-default}
+use borrow.Author.Tests.{eq-eqb, ne-eqb}
+use Rattle.seq.specs.Tabulate.{tabulate}
+use Rattle.isa.specs.Kinds.{registers, fileSize, maskCount, regOf, offsetOf}
+use Rattle.isa.specs.Operands.{elementBytes}
+use Rattle.isa.specs.declared.kinds.Reg.{Reg}
+use Rattle.isa.specs.declared.kinds.Offset.{Offset}
+use Rattle.isa.specs.declared.refusal.Refusal.{Refusal}
+use Rattle.isa.specs.declared.refusal.Refusal.the-variants.{Argument, MemoryLength}
+use Rattle.decode.specs.Instruction.{wantedOf}
+use Rattle.decode.specs.Decode.{decodeOf}
+use Rattle.decode.specs.declared.instruction.First.{First}
+use Rattle.decode.specs.declared.instruction.Third.{Third}
+use Rattle.decode.specs.declared.instruction.Instruction.{Instruction}
+use Rattle.decode.specs.declared.instruction.Decoded.{Decoded}
+use Rattle.moves.specs.Pick.{moveOf, immediateByte}
+use Rattle.moves.specs.Origin.{bitsOf, originOf}
+use Rattle.moves.specs.Moved.{registerAt, firstRegister, thirdPart, repeated, controlOf, entryOf, placed, moved}
+use Rattle.moves.proofs.Placed.{placed-ext}
+use Rattle.moves.specs.declared.Move.{Move}
+use Rattle.moves.specs.declared.Origin.{Origin}
+use Rattle.step.specs.Step.{controlByte, byteOf, lanesOf, laneByte, refusedOf, executedOf, executedFile, stepOf, fileAfter}
+use Rattle.step.specs.declared.Stepped.{Stepped}
+use Rattle.step.proofs.FourLanes.{lanes-at}
+
+-- an offset's number
+offset-is : (r : Reg) (i n : ℕ) (o : Offset) → o ≡ offsetOf r i → n ≡ o .0 → n ≡ offsetOf r i .0
+offset-is r i n o p q = q ∙ ap (λ (y : Offset). y .0) p
+
+-- a register starts at a multiple of 64
+pub starts : (r : Reg) (n : ℕ) (o : Offset) → o ≡ offsetOf r 0 → n ≡ o .0 → n ≡ 64 * (r .0 % registers)
+starts r n o p q = omega (arith, offset-is r 0 n o p q)
+
+pub register-read : (file : List ℕ) (r : Reg) (i n b : ℕ) (o : Offset) → o ≡ offsetOf r i → n ≡ o .0 → b ≡ getD file n 0 → b ≡ registerAt 0 file r i
+register-read file r i n b o p q e = e ∙ ap (λ (k : ℕ). getD file k 0) (offset-is r i n o p q)
+
+pub first-absent : (f : First) (r : Reg) → f ≡ First.Absent → r ≡ regOf 0 0 → r ≡ firstRegister f
+first-absent f r p q = q ∙ rw p
+
+-- a register's part ends within the file
+pub part-fits : (file : List ℕ) (r : Reg) (n : ℕ) (o : Offset) → o ≡ offsetOf r 0 → n ≡ o .0 → length file ≡ fileSize → n + 64 ≤ length file
+part-fits file r n o p q e = omega (arith, offset-is r 0 n o p q)
+
+pub part-is : (t : Third) (memory file part : List ℕ) (r : Reg) (n : ℕ) (o : Offset) → t ≡ Third.Register r → o ≡ offsetOf r 0 → n ≡ o .0
+    → part ≡ take (n + 64 - n) (drop n file) → part ≡ thirdPart t memory file
+part-is t memory file part r n o k p q e =
+    let w : n + 64 - n ≡ 64 = omega arith in
+    e ∙ rw (w, offset-is r 0 n o p q, k)
+
+pub repeated-within : (part : List ℕ) (j : ℕ) → j < length part → getD part j 0 ≡ repeated 0 part j
+repeated-within part j h = rw (mod-eq-of-lt h)
+
+pub repeated-none : (part : List ℕ) (j : ℕ) → length part ≡ 0 → 0 ≡ repeated 0 part j
+repeated-none part j h = sym (List·getD-eq-default part 0 (omega arith))
+
+module _ (x : Instruction) (part file : List ℕ) (i n s : ℕ) (pn : n ≡ elementBytes (x .element)) (kind : Move) (pk : kind ≡ moveOf (x .mnemonic) (x .immediate)) where
+  pub control-third : kind ≡ Move.LaneByThird → (r : ℕ) → r ≡ repeated 0 part (i - i % n) → r ≡ controlByte x part file i
+  unfolding controlOf
+  control-third q r e = e ∙ rw (← pk, q, pn)
+
+  pub control-first : kind ≡ Move.AnyByFirst → (f : Reg) → f ≡ firstRegister (x .first) → (r : ℕ) → r ≡ registerAt 0 file f (i - i % n) → r ≡ controlByte x part file i
+  unfolding controlOf
+  control-first q f p r e = e ∙ rw (← pk, q, p, pn)
+
+  pub control-immediate : kind ≡ Move.LaneByImmediate → (r : ℕ) → r ≡ immediateByte (x .immediate) → r ≡ controlByte x part file i
+  unfolding controlOf
+  control-immediate q r e = e ∙ rw (← pk, q)
+
+  pub control-unpack : kind ≡ Move.UnpackLow → (r : ℕ) → r ≡ immediateByte (x .immediate) → r ≡ controlByte x part file i
+  unfolding controlOf
+  control-unpack q r e = e ∙ rw (← pk, q)
+
+  pub control-lane : kind ≡ Move.LaneOrZero → (r : ℕ) → r ≡ immediateByte (x .immediate) → r ≡ controlByte x part file i
+  unfolding controlOf
+  control-lane q r e = e ∙ rw (← pk, q)
+
+module _ (x : Instruction) (bits : ℕ) (part file : List ℕ) (i c : ℕ) (pc : c ≡ controlByte x part file i) (o : Origin) (po : o ≡ originOf x bits c i) where
+  pub byte-first : (j : ℕ) → o ≡ Origin.First j → (f : Reg) → f ≡ firstRegister (x .first) → (r : ℕ) → r ≡ registerAt 0 file f j → r ≡ byteOf x bits part file i
+  unfolding entryOf
+  byte-first j q f p r e = e ∙ rw (← pc, ← po, q, p)
+
+  pub byte-third : (j : ℕ) → o ≡ Origin.Third j → (r : ℕ) → r ≡ repeated 0 part j → r ≡ byteOf x bits part file i
+  unfolding entryOf
+  byte-third j q r e = e ∙ rw (← pc, ← po, q)
+
+  pub byte-zero : o ≡ Origin.Zero → 0 ≡ byteOf x bits part file i
+  unfolding entryOf
+  byte-zero q = rw (← pc, ← po, q)
+
+  pub byte-kept : o ≡ Origin.Kept → (r : ℕ) → r ≡ registerAt 0 file (x .destination) i → r ≡ byteOf x bits part file i
+  unfolding entryOf
+  byte-kept q r e = e ∙ rw (← pc, ← po, q)
+
+pub refused-no : (d : Decoded) (why : Refusal) → d ≡ Decoded.Refused why → Stepped.Refused why ≡ refusedOf d
+refused-no d why p = rw p
+
+pub refused-done : (d : Decoded) (x : Instruction) → d ≡ Decoded.Accepted x → Stepped.Done (x .length) ≡ refusedOf d
+refused-done d x p = rw p
+
+-- ---- the answer and the file
+
+module _ (x : Instruction) (masks memory file : List ℕ) (w : ℕ) (pw : w ≡ wantedOf (x .third)) where
+  pub memory-wrong : (length memory ≡ w → ⊥) → (Stepped.Refused MemoryLength ≡ executedOf x (length memory)) × (file ≡ executedFile x masks memory file)
+  unfolding executedOf executedFile
+  memory-wrong h =
+      let t = ne-eqb (length memory) (wantedOf (x .third)) (λ e. h (e ∙ sym pw)) in
+      (rw t, rw t)
+
+  pub carried : length memory ≡ w → (bits : ℕ) → bits ≡ bitsOf masks (x .mask)
+      → (new : List (List ℕ)) → new ≡ lanesOf (byteOf x bits (thirdPart (x .third) memory file) file)
+      → (after : List ℕ) → after ≡ tabulate (length file) (placed 0 file (x .destination .0 % registers) (laneByte new))
+      → (Stepped.Done (x .length) ≡ executedOf x (length memory)) × (after ≡ executedFile x masks memory file)
+  unfolding executedOf executedFile moved
+  carried h bits pb new pn after pa =
+      let t = eq-eqb (length memory) (wantedOf (x .third)) (h ∙ pw) in (
+        rw t,
+        rw (t, ← pb)
+            (pa
+            ∙ placed-ext 0 file (x .destination .0 % registers) (laneByte new) (length file) (byteOf x bits (thirdPart (x .third) memory file) file)
+            (λ i g. ap (λ (n : List (List ℕ)). laneByte n i) pn ∙ lanes-at _ i g)),
+      )
+
+module _ (code file masks : List ℕ) (features : ℕ) (memory : List ℕ) where
+  abbrev Gives : Stepped → List ℕ → Type 0
+  Gives r after = (r ≡ stepOf code (length file) (length masks) features (length memory)) × (after ≡ fileAfter code masks features memory file)
+
+  pub file-wrong : (length file ≡ fileSize → ⊥) → Gives (Stepped.Refused Argument) file
+  unfolding stepOf fileAfter
+  file-wrong h = let t = ne-eqb (length file) fileSize h in (rw t, rw t)
+
+  module _ (pf : length file ≡ fileSize) where
+    pub masks-wrong : (length masks ≡ maskCount → ⊥) → Gives (Stepped.Refused Argument) file
+    unfolding stepOf fileAfter
+    masks-wrong h =
+        let t = eq-eqb (length file) fileSize pf in
+        let u = ne-eqb (length masks) maskCount h in
+        (rw (t, u), rw (t, u))
+
+    module _ (pm : length masks ≡ maskCount) (d : Decoded) (pd : d ≡ decodeOf code features) where
+      pub not-decoded : (why : Refusal) → d ≡ Decoded.Refused why → (r : Stepped) → r ≡ refusedOf d → Gives r file
+      unfolding stepOf fileAfter
+      not-decoded why q r e =
+          let t = eq-eqb (length file) fileSize pf in
+          let u = eq-eqb (length masks) maskCount pm in
+          (rw (t, u, ← pd, q) (rw q at e), rw (t, u, ← pd, q))
+
+      pub decoded : (x : Instruction) → d ≡ Decoded.Accepted x → (r : Stepped) (after : List ℕ)
+          → (r ≡ executedOf x (length memory)) × (after ≡ executedFile x masks memory file) → Gives r after
+      unfolding stepOf fileAfter
+      decoded x q r after e =
+          let t = eq-eqb (length file) fileSize pf in
+          let u = eq-eqb (length masks) maskCount pm in
+          (rw (t, u, ← pd, q) (e .0), rw (t, u, ← pd, q) (e .1))

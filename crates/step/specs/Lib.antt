@@ -1,0 +1,2 @@
+-- Document 01, "When the handler says no": a step.
+pub mod Step
