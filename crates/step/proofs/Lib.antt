@@ -1,3 +1,4 @@
 -- Lemmas that the proofs of the step hand to `search` or cite.
 mod FourLanes
 mod Rules
+pub mod Laws

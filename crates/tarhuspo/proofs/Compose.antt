@@ -2,6 +2,7 @@
 use Prim.Native.Nat.{ℕ, _*_}
 use mathlib.Core.Path.{_≡_, _∙_, sym}
 use mathlib.Core.List.{List}
+use lib.ListN.{length}
 use native.Mathlib.Omega.{arith}
 use mir.Val.{Fits}
 use mir.Syntax.{w32}
@@ -14,6 +15,11 @@ use Rattle.decode.proofs.Laws.{accepted-size}
 use Rattle.decode.specs.declared.instruction.Instruction.{Instruction}
 use Rattle.decode.specs.declared.instruction.Decoded.{Decoded}
 use Rattle.decode.specs.declared.instruction.Decoded.the-variants.{Accepted, Refused}
+use Rattle.step.specs.Step.{stepOf}
+use Rattle.step.proofs.Laws.{carried-out}
+use Rattle.step.specs.declared.Stepped.{Stepped}
+use Rattle.tarhuspo.specs.Stepped.{steppedOf}
+use Rattle.tarhuspo.specs.declared.TarhuspoStepped.{TarhuspoStepped}
 use Rattle.tarhuspo.specs.Decoded.{evexOf, firstOf, thirdOf, hasImmediate, immediateOf, flag, acceptedOf, refusedOf, decodedOf}
 use Rattle.tarhuspo.specs.declared.TarhuspoDecoded.{TarhuspoDecoded}
 
@@ -39,3 +45,17 @@ module _ (code : List ℕ) (features : ℕ) (k : Decoded) (p : k ≡ decodeOf co
 
   pub gives-refused : (why : Refusal) → k ≡ Refused why → (r : TarhuspoDecoded) → r ≡ refusedOf why → r ≡ decodedOf (decodeOf code features)
   gives-refused why q r e = rw (← p, q) e
+
+module _ (code masks : List ℕ) (features : ℕ) (memory file : List ℕ) (k : Stepped) (p : k ≡ stepOf code (length file) (length masks) features (length memory)) where
+  pub fits-step : (n : ℕ) → k ≡ Stepped.Done n → Fits w32 n
+  fits-step n q =
+      let d = carried-out code masks features memory file n (sym p ∙ q) in
+      record { fits = omega (arith, accepted-size code features (d .x) (d .decoded) .most, d .size) }
+
+  pub steps : (n : ℕ) → k ≡ Stepped.Done n
+      → _≡_ {A = TarhuspoStepped} (record { status = 0; length = n }) (steppedOf (stepOf code (length file) (length masks) features (length memory)))
+  steps n q = rw (← p, q)
+
+  pub refuses : (why : Refusal) → k ≡ Stepped.Refused why → (s : ℕ) → s ≡ statusOf why
+      → _≡_ {A = TarhuspoStepped} (record { status = s; length = 0 }) (steppedOf (stepOf code (length file) (length masks) features (length memory)))
+  refuses why q s e = rw (← p, q, e)

@@ -1,2 +1,3 @@
 -- What the C interface's structs hold.
 pub mod Decoded
+pub mod Stepped

@@ -1,6 +1,9 @@
 // The C interface: include/tarhuspo.h says the same in C.
 ghost use mathlib.Core.Path.{_≡_};
 ghost use Rattle.decode.specs.Decode.{decodeOf};
+ghost use lib.ListN.{length};
+ghost use Rattle.step.specs.Step.{stepOf, fileAfter};
+ghost use Rattle.tarhuspo.specs.Stepped.{steppedOf};
 ghost use Rattle.tarhuspo.specs.Decoded.{evexOf, firstOf, thirdOf, hasImmediate, immediateOf, flag, acceptedOf, refusedOf, decodedOf};
 use decode::instruction::Decoded;
 use decode::instruction::First;
@@ -10,6 +13,7 @@ use decode::instruction::Third;
 use isa::features::Features;
 use isa::operands::Encoding;
 use isa::refusal::Refusal;
+use step::Stepped;
 
 // tarhuspo_decoded. All fields but status are 0 where status is not 0.
 #[repr(C)]
@@ -142,5 +146,34 @@ pub extern "C" fn tarhuspo_decode(code: &[u8], features: u32) -> TarhuspoDecoded
             accepted(i, length)
         }
         Decoded::Refused(why) => refused(why),
+    }
+}
+
+// tarhuspo_stepped. The length is 0 where status is not 0.
+#[repr(C)]
+pub struct TarhuspoStepped {
+    pub status: u32,
+    pub length: u32,
+}
+
+#[no_mangle]
+pub extern "C" fn tarhuspo_step(
+    code: &[u8],
+    file: &mut [u8],
+    masks: &[u64],
+    features: u32,
+    memory: &[u8],
+) -> TarhuspoStepped
+    ensures { λ r. ⌜ (r ≡ steppedOf (stepOf (now (code .entry)) (length (now (file .entry))) (length (now (masks .entry))) features (length (now (memory .entry))))) × (now (file .exit) ≡ fileAfter (now (code .entry)) (now (masks .entry)) features (now (memory .entry)) (now (file .entry))) ⌝ }
+{
+    match step::step(code, file, masks, Features(features), memory) {
+        Stepped::Done(length) => TarhuspoStepped {
+            status: 0,
+            length: length as u32,
+        },
+        Stepped::Refused(why) => TarhuspoStepped {
+            status: why.status(),
+            length: 0,
+        },
     }
 }
