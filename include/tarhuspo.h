@@ -65,7 +65,7 @@ typedef struct {
 
 /*
  * Decodes the instruction at the start of code, which has code_len bytes: none, or any number.
- * Bytes after the instruction are not looked at. Writes to no memory but the result.
+ * Bytes after the instruction make no difference. Writes to no memory but the result.
  */
 tarhuspo_decoded tarhuspo_decode(const uint8_t *code, size_t code_len, uint32_t features);
 

@@ -1,4 +1,4 @@
--- The laws of decoding: an accepted instruction is decided by its own bytes alone, which are 4 to 12; its numbers are in their ranges.
+-- The laws of decoding: an accepted instruction is decided by its own bytes alone, which are 4 to 12. No answer but 0 to 5 is given.
 use Prim.Native.Nat.{ℕ, _+_, _-_, _*_, _<_, _≤_, _/_, _%_}
 use mathlib.Core.Path.{_≡_, refl, _∙_, sym, ap}
 use mathlib.Core.Bool.{Bool, true, false}
@@ -6,11 +6,12 @@ use mathlib.Core.List.{List, _++_}
 use native.Mathlib.Omega.{arith}
 use lib.ListN.{length, getD, take, length-append, List·getD-append}
 use lib.Seq.{length-take-le, getD-take}
-use lib.Dec.{T, eqb, leb, ltb, leb→le}
+use lib.Dec.{T, eqb, leb, ltb, leb→le, lit≤}
 use borrow.Author.Tests.{eqb-true, eqb-false, ltb-false, leb-false, lt-leb, ne-eqb}
 use Rattle.seq.specs.Choice.{if_then_else_}
 use Rattle.seq.proofs.Choice.{took-first, took-second, of-either}
 use Rattle.isa.specs.Features.{featuresKnown}
+use Rattle.isa.specs.Refusal.{statusOf}
 use Rattle.isa.specs.Table.{rows, findIn}
 use Rattle.isa.proofs.Rule.{of-found}
 use Rattle.isa.specs.declared.refusal.Refusal.{Refusal}
@@ -20,7 +21,7 @@ use Rattle.decode.specs.Prefix.{prefixSize, prefixOf, vex2Of, vex3Of, ev
 use Rattle.decode.specs.Modrm.{totalOf, sibSize, displacementSize}
 use Rattle.decode.specs.Reserved.{checkOf, enoughOf}
 use Rattle.decode.specs.Instruction.{instructionOf}
-use Rattle.decode.specs.Decode.{finishOf, onCheck, onTotal, onRow, onHead, knownOf, decodeOf}
+use Rattle.decode.specs.Decode.{finishOf, onCheck, onTotal, onRow, onHead, knownOf, decodeOf, answerOf}
 use Rattle.decode.specs.declared.prefix.Prefix.{Prefix}
 use Rattle.decode.specs.declared.prefix.Head.{Head}
 use Rattle.decode.specs.declared.reserved.Check.{Check}
@@ -278,3 +279,42 @@ accepted-take xs features x e =
     let h = accepted-size xs features x e .fits in
     accepted-same xs (take (x .length) xs) features x e
     (record { enough = omega (arith, length-take-le (x .length) xs h); same = λ i k. sym (getD-take (x .length) xs i 0 k) })
+
+-- ---- decoding answers 0 to 5, never 6 or more
+
+abbrev Small5 : Decoded → Type 0
+Small5 d = answerOf d ≤ 5
+
+abbrev SmallHead : Head → Type 0
+SmallHead (Head.Got f) = Unit
+SmallHead (Head.Refused why) = statusOf why ≤ 5
+
+small-head : (n b0 b1 b2 b3 : ℕ) → SmallHead (headOf n b0 b1 b2 b3)
+unfolding headOf
+small-head n b0 b1 b2 b3 =
+    of-either SmallHead (eqb n 0) _ _ (lit≤ tt)
+    (of-either SmallHead (eqb (prefixSize b0) 0) _ _ (lit≤ tt)
+    (of-either SmallHead (leb n (prefixSize b0)) _ _ (lit≤ tt)
+    (of-either SmallHead (fixedBits b0 b1 b2) _ _ tt (lit≤ tt))))
+
+small-check : (k : Check) (row : Row) (f : Prefix) (m i n features : ℕ) → Small5 (onCheck k row f m i n features)
+small-check (Wrong field) row f m i n features = lit≤ tt
+small-check Fine row f m i n features = of-either Small5 (enoughOf row f features) _ _ (lit≤ tt) (lit≤ tt)
+
+small-row : (k : Found) (f : Prefix) (code : List ℕ) (features : ℕ) → Small5 (onRow k f code features)
+unfolding onRow onTotal finishOf
+small-row Found.Nothing f code features = lit≤ tt
+small-row (Found.Row row) f code features =
+    let n = totalOf (f .size) (row .immediate) (getD code (f .size + 1) 0) (getD code (f .size + 2) 0) in
+    of-either Small5 (ltb (length code) n) _ _ (lit≤ tt) (small-check (checkOf row f (getD code (f .size + 1) 0)) row f _ _ n features)
+
+small-on-head : (k : Head) → SmallHead k → (code : List ℕ) (features : ℕ) → Small5 (onHead k code features)
+unfolding onHead
+small-on-head (Head.Got f) s code features = small-row (findIn rows (keyOf f (getD code (f .size) 0))) f code features
+small-on-head (Head.Refused why) s code features = s
+
+pub answers : (code : List ℕ) (features : ℕ) → answerOf (decodeOf code features) ≤ 5
+unfolding decodeOf knownOf
+answers code features =
+    of-either Small5 (featuresKnown features) _ _
+    (small-on-head _ (small-head (length code) (getD code 0 0) (getD code 1 0) (getD code 2 0) (getD code 3 0)) code features) (lit≤ tt)

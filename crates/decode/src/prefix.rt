@@ -1,6 +1,7 @@
 // The prefix bytes.
 ghost use mathlib.Core.Path.{_≡_};
 ghost use Rattle.decode.specs.Prefix.{prefixSize, vex2Of, vex3Of, evexOf, prefixOf, fixedBits, keyOf, headOf};
+use isa::operands::Encoding;
 use isa::refusal::Field;
 use isa::refusal::Refusal;
 use isa::table::Key;
@@ -60,7 +61,7 @@ fn vex2(p: u8) -> Prefix
     ensures { λ r. ⌜ r ≡ vex2Of p ⌝ }
 {
     Prefix {
-        evex: 0,
+        evex: Encoding::VEX,
         size: 2,
         r: 1 - p / 128 % 2,
         x: 0,
@@ -80,7 +81,7 @@ fn vex3(p: u8, q: u8) -> Prefix
     ensures { λ r. ⌜ r ≡ vex3Of p q ⌝ }
 {
     Prefix {
-        evex: 0,
+        evex: Encoding::VEX,
         size: 3,
         r: 1 - p / 128 % 2,
         x: 1 - p / 64 % 2,
@@ -100,7 +101,7 @@ fn evex(p: u8, q: u8, s: u8) -> Prefix
     ensures { λ r. ⌜ r ≡ evexOf p q s ⌝ }
 {
     Prefix {
-        evex: 1,
+        evex: Encoding::EVEX,
         size: 4,
         r: 1 - p / 128 % 2 + 2 * (1 - p / 16 % 2),
         x: 1 - p / 64 % 2,

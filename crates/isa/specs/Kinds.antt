@@ -23,6 +23,20 @@ fileSize = registers * registerBytes
 abbrev pub maskCount : ℕ
 maskCount = 8
 
+-- a byte map has an entry for each byte of the file; the entry for a zero is the first number that is no offset
+abbrev pub mapEntries : ℕ
+mapEntries = fileSize
+
+abbrev pub zeroEntry : ℕ
+zeroEntry = fileSize
+
+-- the most bytes of a list, and the bytes that its listing may need
+abbrev pub codeLimit : ℕ
+codeLimit = 4096
+
+abbrev pub textLeast : ℕ
+textLeast = 25624
+
 -- a number within its range is of its kind
 abbrev pub regNew : ℕ → MaybeReg
 regNew n = if ltb n registers then MaybeReg.Is (record { 0 = n }) else MaybeReg.OutOfRange
@@ -40,6 +54,6 @@ regOf high low = record { 0 = high % 4 * 8 + low % 8 }
 abbrev pub maskOf : ℕ → Mask
 maskOf bits = record { 0 = bits % maskCount }
 
--- byte i of register r stands at 64 r + i
+-- the registers lie one after the other, lowest byte first. Every register number in range is its own remainder
 abbrev pub offsetOf : Reg → ℕ → Offset
 offsetOf r i = record { 0 = r .0 % registers * registerBytes + i % registerBytes }

@@ -74,7 +74,7 @@ impl Mask {
     }
 }
 
-// A byte's offset in the register file: byte i of register r stands at 64 r + i.
+// A byte's offset in the register file, which has the registers one after the other.
 pub struct Offset(u16);
 
 pub enum MaybeOffset {
@@ -119,9 +119,10 @@ impl RegisterFile {
 pub struct ByteMap {}
 
 impl ByteMap {
-    pub const ENTRIES: usize = 2048;
-    // The entry that stands for a zero byte.
-    pub const ZERO: u16 = 2048;
+    // One for each byte of a register file.
+    pub const ENTRIES: usize = RegisterFile::SIZE;
+    // The entry that stands for a zero byte: the first number that is no offset.
+    pub const ZERO: u16 = RegisterFile::SIZE as u16;
 }
 
 // Encoded instructions, end to end (document 01: list).

@@ -4,6 +4,7 @@ ghost use Prim.Native.Nat.{_<_};
 ghost use lib.ListN.{length, getD};
 ghost use Rattle.isa.specs.Table.{rows, blank, matchesW, matchesRow, findIn};
 use crate::features::Features;
+use crate::operands::Encoding;
 use crate::operands::Mnemonic;
 use crate::operands::Width;
 
@@ -14,7 +15,7 @@ pub struct Row {
     pub pp: u8,
     pub map: u8,
     pub opcode: u8,
-    // 0 or 1, the W that is wanted, or 2 for any.
+    // 0 or 1, the W that is wanted, or ANY_W.
     pub w: u8,
     // The least that the width field may be.
     pub least: u8,
@@ -29,6 +30,10 @@ pub struct Row {
     // The feature needed, and the one at 256 bits.
     pub needs: u8,
     pub needs256: u8,
+}
+
+impl Row {
+    pub const ANY_W: u8 = 2;
 }
 
 // What a row is looked up by.
@@ -56,16 +61,17 @@ const VPSHUFD: u8 = Mnemonic::VPSHUFD;
 
 const VPERM2F128: u8 = Mnemonic::VPERM2F128;
 
-const VEX: u8 = 0;
+const VEX: u8 = Encoding::VEX;
 
-const EVEX: u8 = 1;
+const EVEX: u8 = Encoding::EVEX;
 
 const W0: u8 = 0;
 
 const W1: u8 = 1;
 
-const WIG: u8 = 2;
+const WIG: u8 = Row::ANY_W;
 
+// The least width; VEX forms reach to 256 bits, EVEX forms to 512.
 const XMM: u8 = Width::L128;
 
 const YMM: u8 = Width::L256;
@@ -115,6 +121,7 @@ fn row_at(i: usize) -> Row
         opcode: t[4],
         w: t[5],
         least: t[6],
+        // RMI and RVMI are odd, RVM and RVMI at least 2.
         immediate: t[7] % 2,
         first: t[7] / 2,
         element: t[8],

@@ -20,7 +20,7 @@ use Rattle.step.proofs.Laws.{carried-out}
 use Rattle.step.specs.declared.Stepped.{Stepped}
 use Rattle.tarhuspo.specs.Stepped.{steppedOf}
 use Rattle.tarhuspo.specs.declared.TarhuspoStepped.{TarhuspoStepped}
-use Rattle.tarhuspo.specs.Decoded.{evexOf, firstOf, thirdOf, hasImmediate, immediateOf, flag, acceptedOf, refusedOf, decodedOf}
+use Rattle.tarhuspo.specs.Decoded.{encodingNumber, firstNumber, thirdNumber, hasImmediate, immediateNumber, flag, acceptedOf, refusedOf, decodedOf}
 use Rattle.tarhuspo.specs.declared.TarhuspoDecoded.{TarhuspoDecoded}
 
 pub refused-is : (why : Refusal) (s : ℕ) → s ≡ statusOf why
@@ -29,9 +29,9 @@ unfolding refusedOf
 refused-is why s p = rw p
 
 pub accepted-is : (i : Instruction) (n m a b e d f t k z c h v : ℕ)
-    → m ≡ wantedOf (i .third) → a ≡ mnemonicNumber (i .mnemonic) → b ≡ widthBytes (i .width) → e ≡ evexOf (i .encoding) → d ≡ i .destination .0
-    → f ≡ firstOf (i .first) → t ≡ thirdOf (i .third) → k ≡ i .mask .0 → z ≡ flag (i .zeroing) → c ≡ flag (i .broadcast)
-    → h ≡ hasImmediate (i .immediate) → v ≡ immediateOf (i .immediate)
+    → m ≡ wantedOf (i .third) → a ≡ mnemonicNumber (i .mnemonic) → b ≡ widthBytes (i .width) → e ≡ encodingNumber (i .encoding) → d ≡ i .destination .0
+    → f ≡ firstNumber (i .first) → t ≡ thirdNumber (i .third) → k ≡ i .mask .0 → z ≡ flag (i .zeroing) → c ≡ flag (i .broadcast)
+    → h ≡ hasImmediate (i .immediate) → v ≡ immediateNumber (i .immediate)
     → _≡_ {A = TarhuspoDecoded} (record { status = 0; length = n; memory = m; mnemonic = a; bits = b * 8; evex = e; destination = d; first = f; third = t; mask = k; zeroing = z; broadcast = c; «has_immediate» = h; immediate = v }) (acceptedOf i n)
 unfolding acceptedOf
 accepted-is i n m a b e d f t k z c h v pm pa pb pe pd pf pt pk pz pc ph pv = rw (pm, pa, pb, pe, pd, pf, pt, pk, pz, pc, ph, pv)

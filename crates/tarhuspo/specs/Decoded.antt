@@ -16,25 +16,25 @@ use Rattle.decode.specs.declared.instruction.Decoded.{Decoded}
 use Rattle.decode.specs.declared.instruction.Decoded.the-variants.{Accepted, Refused}
 use Rattle.tarhuspo.specs.declared.TarhuspoDecoded.{TarhuspoDecoded}
 
-abbrev pub evexOf : Encoding → ℕ
-evexOf Vex = 0
-evexOf Evex = 1
+abbrev pub encodingNumber : Encoding → ℕ
+encodingNumber Vex = 0
+encodingNumber Evex = 1
 
-abbrev pub firstOf : First → ℕ
-firstOf (First.Register r) = r .0
-firstOf First.Absent = 0
+abbrev pub firstNumber : First → ℕ
+firstNumber (First.Register r) = r .0
+firstNumber First.Absent = 0
 
-abbrev pub thirdOf : Third → ℕ
-thirdOf (Third.Register r) = r .0
-thirdOf (Third.Memory bytes) = 0
+abbrev pub thirdNumber : Third → ℕ
+thirdNumber (Third.Register r) = r .0
+thirdNumber (Third.Memory bytes) = 0
 
 abbrev pub hasImmediate : Immediate → ℕ
 hasImmediate (Immediate.Byte b) = 1
 hasImmediate Immediate.Absent = 0
 
-abbrev pub immediateOf : Immediate → ℕ
-immediateOf (Immediate.Byte b) = b
-immediateOf Immediate.Absent = 0
+abbrev pub immediateNumber : Immediate → ℕ
+immediateNumber (Immediate.Byte b) = b
+immediateNumber Immediate.Absent = 0
 
 abbrev pub flag : Bool → ℕ
 flag set = if set then 1 else 0
@@ -47,15 +47,15 @@ acceptedOf i length =
       memory = wantedOf (i .third);
       mnemonic = mnemonicNumber (i .mnemonic);
       bits = widthBytes (i .width) * 8;
-      evex = evexOf (i .encoding);
+      evex = encodingNumber (i .encoding);
       destination = i .destination .0;
-      first = firstOf (i .first);
-      third = thirdOf (i .third);
+      first = firstNumber (i .first);
+      third = thirdNumber (i .third);
       mask = i .mask .0;
       zeroing = flag (i .zeroing);
       broadcast = flag (i .broadcast);
       «has_immediate» = hasImmediate (i .immediate);
-      immediate = immediateOf (i .immediate);
+      immediate = immediateNumber (i .immediate);
     }
 
 unfoldable pub refusedOf : Refusal → TarhuspoDecoded

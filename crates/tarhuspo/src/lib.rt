@@ -4,7 +4,7 @@ ghost use Rattle.decode.specs.Decode.{decodeOf};
 ghost use lib.ListN.{length};
 ghost use Rattle.step.specs.Step.{stepOf, fileAfter};
 ghost use Rattle.tarhuspo.specs.Stepped.{steppedOf};
-ghost use Rattle.tarhuspo.specs.Decoded.{evexOf, firstOf, thirdOf, hasImmediate, immediateOf, flag, acceptedOf, refusedOf, decodedOf};
+ghost use Rattle.tarhuspo.specs.Decoded.{encodingNumber, firstNumber, thirdNumber, hasImmediate, immediateNumber, flag, acceptedOf, refusedOf, decodedOf};
 use decode::instruction::Decoded;
 use decode::instruction::First;
 use decode::instruction::Immediate;
@@ -35,7 +35,7 @@ pub struct TarhuspoDecoded {
 }
 
 fn evex_of(encoding: Encoding) -> u32
-    ensures { λ r. ⌜ r ≡ evexOf encoding ⌝ }
+    ensures { λ r. ⌜ r ≡ encodingNumber encoding ⌝ }
 {
     match encoding {
         Encoding::Vex => 0,
@@ -44,7 +44,7 @@ fn evex_of(encoding: Encoding) -> u32
 }
 
 fn first_of(first: First) -> u32
-    ensures { λ r. ⌜ r ≡ firstOf first ⌝ }
+    ensures { λ r. ⌜ r ≡ firstNumber first ⌝ }
 {
     match first {
         First::Register(register) => register.number() as u32,
@@ -53,7 +53,7 @@ fn first_of(first: First) -> u32
 }
 
 fn third_of(third: Third) -> u32
-    ensures { λ r. ⌜ r ≡ thirdOf third ⌝ }
+    ensures { λ r. ⌜ r ≡ thirdNumber third ⌝ }
 {
     match third {
         Third::Register(register) => register.number() as u32,
@@ -71,7 +71,7 @@ fn has_immediate(immediate: Immediate) -> u32
 }
 
 fn immediate_of(immediate: Immediate) -> u32
-    ensures { λ r. ⌜ r ≡ immediateOf immediate ⌝ }
+    ensures { λ r. ⌜ r ≡ immediateNumber immediate ⌝ }
 {
     match immediate {
         Immediate::Byte(byte) => byte as u32,
