@@ -1,5 +1,6 @@
--- Lemmas that the proofs of the moves hand to `search`, and those on the file after a step, which other crates cite.
+-- Lemmas that the proofs of the moves hand to `search`, and the laws of the file after a step, which other crates cite.
 mod Sizes
 mod Digits
 mod Rules
 pub mod Placed
+pub mod Laws

@@ -2,3 +2,4 @@
 pub mod Pick
 pub mod Origin
 pub mod Moved
+pub mod Mappable

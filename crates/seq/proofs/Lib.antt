@@ -2,3 +2,4 @@
 pub mod Cases
 pub mod Choice
 pub mod Tabulate
+pub mod Parts

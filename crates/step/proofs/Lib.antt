@@ -2,3 +2,4 @@
 mod FourLanes
 mod Rules
 pub mod Laws
+pub mod Examples

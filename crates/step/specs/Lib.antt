@@ -1,2 +1,3 @@
 -- Document 01, "When the handler says no": a step.
 pub mod Step
+pub mod Examples
