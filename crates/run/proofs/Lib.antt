@@ -1,0 +1,3 @@
+-- What a run's loop keeps, and the laws of splits and runs, which other crates cite.
+mod Going
+mod Order

@@ -1,0 +1,69 @@
+use borrow.Author.Needs.{needs}
+use Rattle.run.proofs.Order.{file-wrong, masks-wrong, features-wrong, too-long, stepped}
+use Rattle.run.proofs.run.Statement.{statement}
+use Rattle.run.proofs.run.Tie as tie
+
+-- the function's arguments, from the place where the first test stands
+abbrev entry : tie.After-shared-slice-known2 → tie.Start
+entry c = c .before .before .before
+
+returns : tie.Need-returns
+returns c =
+    let s = entry (c .before .before) in
+    file-wrong (s .args .code .now) (s .args .file .now) (s .args .masks .now) (s .args .features .0) (s .args .budget) _ (c .before .if1 .taken) (c .refused .ensures)
+
+returns-2 : tie.Need-returns-2
+returns-2 c =
+    let e = c .before .before in
+    let s = entry (e .before) in
+    masks-wrong (s .args .code .now) (s .args .file .now) (s .args .masks .now) (s .args .features .0) (s .args .budget) _ (e .if1 .left) (c .before .if2 .taken) (c .refused2 .ensures)
+
+returns-3 : tie.Need-returns-3
+returns-3 c =
+    let t = c .before .before in
+    let k = t .before in
+    let f = k .before in
+    let e = f .before in
+    let s = entry (e .before) in
+    too-long (s .args .code .now) (s .args .file .now) (s .args .masks .now) (s .args .features .0) (s .args .budget) _ (e .if1 .left) (f .if2 .left) _ (k .known .ensures) (t .if3 .taken)
+    (c .before .if4 .taken) (c .refused3 .ensures)
+
+returns-4 : tie.Need-returns-4
+returns-4 c =
+    let r = c .before .before in
+    let g = r .before .before in
+    let t = g .before in
+    let k = t .before in
+    let f = k .before in
+    let e = f .before in
+    let s = entry (e .before) in
+    stepped (s .args .code .now) (s .args .file .now) (s .args .masks .now) (s .args .features .0) (s .args .budget) _ (e .if1 .left) (f .if2 .left) _ (k .known .ensures) (t .if3 .taken)
+    (g .if4 .left) _ (r .run-steps .ensures)
+
+returns-5 : tie.Need-returns-5
+returns-5 c =
+    let t = c .before in
+    let k = t .before in
+    let f = k .before in
+    let e = f .before in
+    let s = entry (e .before) in
+    features-wrong (s .args .code .now) (s .args .file .now) (s .args .masks .now) (s .args .features .0) (s .args .budget) _ (e .if1 .left) (f .if2 .left) _ (k .known .ensures) (t .if3 .left)
+    (c .refused4 .ensures)
+
+pub run-spec : {M : Type 1} → statement M
+run-spec =
+    tie.close
+    (tie.spec
+    (λ c κs. search needs)
+    returns
+    (λ c. search needs)
+    (λ c κs. search needs)
+    returns-2
+    (λ c κs. search needs)
+    (λ c κs. search needs)
+    returns-3
+    (λ c κs. search needs)
+    (λ c. search needs)
+    returns-4
+    (λ c κs. search needs)
+    returns-5)
