@@ -94,11 +94,11 @@ impl Offset {
     }
 
     // Byte i of a register, by the low six bits of i.
-    pub fn of(register: Reg, i: u16) -> Offset
+    pub fn of(register: Reg, i: u32) -> Offset
         ensures { λ r. ⌜ r ≡ offsetOf register i ⌝ }
     {
         let number = register.0 % Reg::COUNT;
-        Offset(number as u16 * Reg::BYTES as u16 + i % Reg::BYTES as u16)
+        Offset(number as u16 * Reg::BYTES as u16 + (i % Reg::BYTES as u32) as u16)
     }
 
     pub fn number(self) -> u16

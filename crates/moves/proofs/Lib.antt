@@ -4,3 +4,4 @@ mod Digits
 mod Rules
 pub mod Placed
 pub mod Laws
+pub mod Shift

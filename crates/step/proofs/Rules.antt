@@ -25,7 +25,7 @@ use Rattle.moves.specs.Moved.{registerAt, firstRegister, thirdPart, repeated, c
 use Rattle.moves.proofs.Placed.{placed-ext}
 use Rattle.moves.specs.declared.Move.{Move}
 use Rattle.moves.specs.declared.Origin.{Origin}
-use Rattle.step.specs.Step.{controlByte, byteOf, lanesOf, laneByte, refusedOf, executedOf, executedFile, stepOf, fileAfter}
+use Rattle.step.specs.Step.{controlByte, byteOf, originAt, elementOrigin, byteFrom, lanesOf, laneByte, refusedOf, executedOf, executedFile, stepOf, fileAfter}
 use Rattle.step.specs.declared.Stepped.{Stepped}
 use Rattle.step.proofs.FourLanes.{lanes-at}
 
@@ -80,22 +80,34 @@ module _ (x : Instruction) (part file : List ℕ) (i n s : ℕ) (pn : n ≡ elem
   unfolding controlOf
   control-lane q r e = e ∙ rw (← pk, q)
 
-module _ (x : Instruction) (bits : ℕ) (part file : List ℕ) (i c : ℕ) (pc : c ≡ controlByte x part file i) (o : Origin) (po : o ≡ originOf x bits c i) where
-  pub byte-first : (j : ℕ) → o ≡ Origin.First j → (f : Reg) → f ≡ firstRegister (x .first) → (r : ℕ) → r ≡ registerAt 0 file f j → r ≡ byteOf x bits part file i
-  unfolding entryOf
-  byte-first j q f p r e = e ∙ rw (← pc, ← po, q, p)
+pub origin-found : (x : Instruction) (bits : ℕ) (part file : List ℕ) (i c : ℕ) (r : Origin) → c ≡ controlByte x part file i → r ≡ originOf x bits c i → r ≡ originAt x bits part file i
+origin-found x bits part file i c r p e = e ∙ rw p
 
-  pub byte-third : (j : ℕ) → o ≡ Origin.Third j → (r : ℕ) → r ≡ repeated 0 part j → r ≡ byteOf x bits part file i
-  unfolding entryOf
-  byte-third j q r e = e ∙ rw (← pc, ← po, q)
+module _ (x : Instruction) (bits : ℕ) (part file : List ℕ) (found : Origin) (i n : ℕ) (pn : n ≡ elementBytes (x .element)) where
+  pub element-first : i % n ≡ 0 → (r : Origin) → r ≡ originAt x bits part file i → r ≡ elementOrigin x bits part file found i
+  unfolding elementOrigin
+  element-first h r e = rw (← pn, eq-eqb (i % n) 0 h) e
 
-  pub byte-zero : o ≡ Origin.Zero → 0 ≡ byteOf x bits part file i
-  unfolding entryOf
-  byte-zero q = rw (← pc, ← po, q)
+  pub element-other : (i % n ≡ 0 → ⊥) → found ≡ elementOrigin x bits part file found i
+  unfolding elementOrigin
+  element-other h = rw (← pn, ne-eqb (i % n) 0 h)
 
-  pub byte-kept : o ≡ Origin.Kept → (r : ℕ) → r ≡ registerAt 0 file (x .destination) i → r ≡ byteOf x bits part file i
-  unfolding entryOf
-  byte-kept q r e = e ∙ rw (← pc, ← po, q)
+module _ (x : Instruction) (part file : List ℕ) (from : Origin) (i n : ℕ) (pn : n ≡ elementBytes (x .element)) where
+  pub byte-first : (j : ℕ) → from ≡ Origin.First j → (f : Reg) → f ≡ firstRegister (x .first) → (r : ℕ) → r ≡ registerAt 0 file f (j + i % n) → r ≡ byteFrom x part file from i
+  unfolding byteFrom
+  byte-first j q f p r e = e ∙ rw (q, p, pn)
+
+  pub byte-third : (j : ℕ) → from ≡ Origin.Third j → (r : ℕ) → r ≡ repeated 0 part (j + i % n) → r ≡ byteFrom x part file from i
+  unfolding byteFrom
+  byte-third j q r e = e ∙ rw (q, pn)
+
+  pub byte-zero : from ≡ Origin.Zero → 0 ≡ byteFrom x part file from i
+  unfolding byteFrom
+  byte-zero q = rw q
+
+  pub byte-kept : from ≡ Origin.Kept → (r : ℕ) → r ≡ registerAt 0 file (x .destination) i → r ≡ byteFrom x part file from i
+  unfolding byteFrom
+  byte-kept q r e = e ∙ rw q
 
 pub refused-no : (d : Decoded) (why : Refusal) → d ≡ Decoded.Refused why → Stepped.Refused why ≡ refusedOf d
 refused-no d why p = rw p

@@ -12,7 +12,10 @@ use Rattle.decode.specs.Instruction.{wantedOf}
 use Rattle.decode.specs.Decode.{decodeOf}
 use Rattle.decode.specs.declared.instruction.Instruction.{Instruction}
 use Rattle.decode.specs.declared.instruction.Decoded.{Decoded}
-use Rattle.moves.specs.Moved.{controlOf, entryOf, moved}
+use Rattle.isa.specs.Operands.{elementBytes}
+use Rattle.moves.specs.Origin.{originOf, shifted}
+use Rattle.moves.specs.Moved.{held, registerAt, firstRegister, repeated, controlOf, entryOf, moved}
+use Rattle.moves.specs.declared.Origin.{Origin}
 use Rattle.step.specs.declared.Stepped.{Stepped}
 
 -- a register file's entries are bytes: they are their own controls, and their zero is 0
@@ -24,6 +27,18 @@ controlByte = controlOf (λ b. b) 0
 
 abbrev pub movedFile : Instruction → List ℕ → List ℕ → List ℕ → List ℕ
 movedFile = moved (λ b. b) 0
+
+-- where byte i of the destination comes from, and the byte that the origin of its element gives
+abbrev pub originAt : Instruction → ℕ → List ℕ → List ℕ → ℕ → Origin
+originAt x bits part file i = originOf x bits (controlByte x part file i) i
+
+unfoldable pub elementOrigin : Instruction → ℕ → List ℕ → List ℕ → Origin → ℕ → Origin
+elementOrigin x bits part file found i = if eqb (i % elementBytes (x .element)) 0 then originAt x bits part file i else found
+
+unfoldable pub byteFrom : Instruction → List ℕ → List ℕ → Origin → ℕ → ℕ
+byteFrom x part file from i =
+    held 0 (registerAt 0 file (firstRegister (x .first))) (repeated 0 part) (registerAt 0 file (x .destination) i)
+    (shifted (i % elementBytes (x .element)) from)
 
 -- 64 bytes as four lanes, and back
 unfoldable pub lanesOf : (ℕ → ℕ) → List (List ℕ)

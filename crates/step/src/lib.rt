@@ -7,7 +7,7 @@ ghost use Rattle.seq.specs.Tabulate.{tabulate};
 ghost use Rattle.isa.specs.Kinds.{registers, fileSize};
 ghost use Rattle.decode.specs.Decode.{decodeOf};
 ghost use Rattle.moves.specs.Moved.{registerAt, firstRegister, thirdPart, repeated, placed};
-ghost use Rattle.step.specs.Step.{lanesOf, laneByte, controlByte, byteOf, refusedOf, executedOf, executedFile, stepOf, fileAfter};
+ghost use Rattle.step.specs.Step.{lanesOf, laneByte, controlByte, byteOf, originAt, elementOrigin, byteFrom, refusedOf, executedOf, executedFile, stepOf, fileAfter};
 use decode::instruction::Decoded;
 use decode::instruction::First;
 use decode::instruction::Instruction;
@@ -28,7 +28,7 @@ pub enum Stepped {
     Refused(Refusal),
 }
 
-fn register_byte(file: &[u8], register: Reg, i: u16) -> u8
+fn register_byte(file: &[u8], register: Reg, i: u32) -> u8
     ensures { λ r. ⌜ r ≡ registerAt 0 (now (file .entry)) register i ⌝ }
 {
     let at = Offset::of(register, i);
@@ -61,7 +61,7 @@ fn third_part<'a>(third: Third, file: &'a [u8], memory: &'a [u8]) -> &'a [u8]
 }
 
 // Byte j of an operand that repeats.
-fn repeated_byte(part: &[u8], j: u16) -> u8
+fn repeated_byte(part: &[u8], j: u32) -> u8
     ensures { λ r. ⌜ r ≡ repeated 0 (now (part .entry)) j ⌝ }
 {
     let at = j as usize;
@@ -83,7 +83,7 @@ fn control(x: Instruction, part: &[u8], file: &[u8], i: u8) -> u8
     let element = x.element;
     let first = x.first;
     let kind = moves::move_of(mnemonic, immediate);
-    let start = (i - i % element.bytes()) as u16;
+    let start = (i - i % element.bytes()) as u32;
     match kind {
         Move::LaneByThird => repeated_byte(part, start),
         Move::AnyByFirst => register_byte(file, first_register(first), start),
@@ -93,30 +93,73 @@ fn control(x: Instruction, part: &[u8], file: &[u8], i: u8) -> u8
     }
 }
 
-// Byte i of the destination.
-fn byte(x: Instruction, bits: u64, part: &[u8], file: &[u8], i: u8) -> u8
-    ensures { λ r. ⌜ r ≡ byteOf x bits (now (part .entry)) (now (file .entry)) i ⌝ }
+// Where byte i of the destination comes from.
+fn origin_at(x: Instruction, bits: u64, part: &[u8], file: &[u8], i: u8) -> Origin
+    ensures { λ r. ⌜ r ≡ originAt x bits (now (part .entry)) (now (file .entry)) i ⌝ }
+{
+    let c = control(x, part, file, i);
+    moves::origin_of(x, bits, c, i)
+}
+
+// The origin of byte i's element, which is looked for at the element's first byte alone.
+fn element_origin(
+    x: Instruction,
+    bits: u64,
+    part: &[u8],
+    file: &[u8],
+    found: Origin,
+    i: u8,
+) -> Origin
+    ensures { λ r. ⌜ r ≡ elementOrigin x bits (now (part .entry)) (now (file .entry)) found i ⌝ }
+{
+    let element = x.element;
+    let k = i % element.bytes();
+    if k == 0 {
+        return origin_at(x, bits, part, file, i);
+    }
+    found
+}
+
+// Byte i of the destination, by the origin of its element.
+fn byte(x: Instruction, part: &[u8], file: &[u8], from: Origin, i: u8) -> u8
+    ensures { λ r. ⌜ r ≡ byteFrom x (now (part .entry)) (now (file .entry)) from i ⌝ }
 {
     let first = x.first;
     let destination = x.destination;
-    let c = control(x, part, file, i);
-    match moves::origin_of(x, bits, c, i) {
-        Origin::First(j) => register_byte(file, first_register(first), j),
-        Origin::Third(j) => repeated_byte(part, j),
+    let element = x.element;
+    let k = (i % element.bytes()) as u32;
+    match from {
+        Origin::First(j) => register_byte(file, first_register(first), j as u32 + k),
+        Origin::Third(j) => repeated_byte(part, j as u32 + k),
         Origin::Zero => 0,
-        Origin::Kept => register_byte(file, destination, i as u16),
+        Origin::Kept => register_byte(file, destination, i as u32),
     }
 }
 
-fn lane(x: Instruction, bits: u64, part: &[u8], file: &[u8], l: u8) -> [u8; 16]
+fn lane_bytes(x: Instruction, bits: u64, part: &[u8], file: &[u8], l: u8) -> [u8; 16]
     requires { ⌜ l < 4 ⌝ }
     ensures { λ r. ⌜ r ≡ tabulate 16 (λ b. byteOf x bits (now (part .entry)) (now (file .entry)) (16 * l + b)) ⌝ }
 {
     let mut bytes = [0u8; 16];
+    let mut from = Origin::Zero;
     for b in 0..16 {
-        bytes[b] = byte(x, bits, part, file, 16 * l + b as u8);
+        let i = 16 * l + b as u8;
+        from = element_origin(x, bits, part, file, from, i);
+        bytes[b] = byte(x, part, file, from, i);
     }
     bytes
+}
+
+// Lane l of the destination, which is zero from the width on.
+fn lane(x: Instruction, bits: u64, part: &[u8], file: &[u8], l: u8) -> [u8; 16]
+    requires { ⌜ l < 4 ⌝ }
+    ensures { λ r. ⌜ r ≡ tabulate 16 (λ b. byteOf x bits (now (part .entry)) (now (file .entry)) (16 * l + b)) ⌝ }
+{
+    let width = x.width;
+    if width.bytes() <= 16 * l {
+        return [0u8; 16];
+    }
+    lane_bytes(x, bits, part, file, l)
 }
 
 // The destination's 64 bytes, in four lanes.
