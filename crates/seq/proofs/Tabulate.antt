@@ -112,3 +112,13 @@ pub map-tabulate {ℓ κ} : {A : Type ℓ} {B : Type κ} (h : A → B) (n : ℕ)
 unfolding tabulate
 map-tabulate h zero f = refl
 map-tabulate h (suc n) f = ap (λ (t : List _). h (f 0) ∷ t) (map-tabulate h n (λ k. f (suc k)))
+
+-- a table of f over a list's elements is the list mapped
+pub tabulate-map {ℓ κ} : {A : Type ℓ} {B : Type κ} (f : A → B) (l : List A) (n : ℕ) (d : A) → length l ≡ n → tabulate n (λ p. f (getD l p d)) ≡ map f l
+tabulate-map f l n d e = sym (is-tabulate (map f l) n (λ p. f (getD l p d)) (f d) (length-map l f ∙ e) (λ i h. List·getD-map f l i d))
+
+-- an element does not go by the default
+pub getD-any {ℓ} : {A : Type ℓ} (l : List A) (i : ℕ) (d e : A) → i < length l → getD l i d ≡ getD l i e
+getD-any [] i d e h = absurd (not-suc-le-zero h)
+getD-any (x ∷ xs) zero d e h = refl
+getD-any (x ∷ xs) (suc i) d e h = getD-any xs i d e (le-of-suc-le-suc h)

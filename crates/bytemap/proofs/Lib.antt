@@ -1,0 +1,3 @@
+-- Lemmas that the proofs of byte maps hand to `search` or cite.
+mod Answers
+mod Fine

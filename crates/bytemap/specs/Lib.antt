@@ -1,0 +1,2 @@
+-- Document 01, "Lists, sheets, listing": route sheets, which are called byte maps here.
+pub mod ByteMap
