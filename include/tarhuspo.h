@@ -1,11 +1,13 @@
 /*
- * Tarhuspo: a proved decoder of AVX permute instructions (64-bit code, VEX and EVEX encodings).
+ * Tarhuspo: a proved decoder and emulator of AVX permute instructions (64-bit code, VEX and EVEX
+ * encodings).
  *
  * Link with target/staticlib/libtarhuspo.a, which `rt staticlib tarhuspo` builds for x86-64.
  *
  * For every caller:
  *  - A pointer must not be null, also where its length is 0, and must be valid for that length.
- *  - Buffers of one call must not overlap, and nothing may write to them during the call.
+ *  - A buffer that a call writes to must not overlap another one of that call. Those that are only
+ *    read may. Nothing else may write to any of them during the call.
  *  - Nothing else is asked. Every content and every length is allowed and has a defined answer.
  *  - No function allocates, keeps a pointer after it returns, or has state of its own, so that
  *    any number of threads may call at once.
@@ -26,6 +28,10 @@ extern "C" {
 #define TARHUSPO_AVX512F UINT32_C(4)
 #define TARHUSPO_AVX512VL UINT32_C(8)
 #define TARHUSPO_AVX512_VBMI UINT32_C(16)
+
+/* Sizes: bytes of the register file, and the number of opmasks. */
+#define TARHUSPO_FILE_SIZE 2048
+#define TARHUSPO_MASK_COUNT 8
 
 /*
  * A decoded instruction.
@@ -68,6 +74,40 @@ typedef struct {
  * Bytes after the instruction make no difference. Writes to no memory but the result.
  */
 tarhuspo_decoded tarhuspo_decode(const uint8_t *code, size_t code_len, uint32_t features);
+
+/*
+ * The result of a step.
+ *
+ * status is 0 if the instruction was carried out. Otherwise it says what is wrong, and length is 0.
+ * The first of these that applies is given:
+ *
+ *  1  file_len is not 2048, masks_len is not 8, or features is over 31.
+ *  2 to 5  The instruction is not accepted: as tarhuspo_decode, in its order.
+ *  6  memory_len is not exactly what tarhuspo_decode gives as memory: 0 for a register form, the
+ *     vector width for a memory form, one element for a broadcast. An opmask changes nothing in
+ *     that, even if it leaves no element.
+ */
+typedef struct {
+    uint32_t status; /* 0 done, or 1 to 6 as above */
+    uint32_t length; /* bytes of the instruction; those behind are ignored */
+} tarhuspo_stepped;
+
+/*
+ * Carries out the instruction at the start of code on the register file.
+ *
+ * Byte i of register r is file[64 * r + i], lowest byte first. masks[k] is opmask k: its bit j is
+ * for element j, and bits past the last element do not count. Nor does masks[0], because opmask 0
+ * stands for no masking. All sources are read before the destination is written, so they may be
+ * the same register.
+ *
+ * If status is 0, the 64 bytes of the destination register are changed and no others: elements
+ * that the opmask lets through get their new value, the others are kept or zeroed, and bytes above
+ * the vector width are zeroed. If status is not 0, nothing is changed. code, masks and memory are
+ * never written to.
+ */
+tarhuspo_stepped tarhuspo_step(const uint8_t *code, size_t code_len, uint8_t *file, size_t file_len,
+                               const uint64_t *masks, size_t masks_len, uint32_t features,
+                               const uint8_t *memory, size_t memory_len);
 
 #ifdef __cplusplus
 }

@@ -1,4 +1,4 @@
-//! The bytes that are decoded: many short inputs, one behind the other in memory.
+//! The bytes that are decoded or carried out: many short inputs, one behind the other in memory.
 
 use compare::encoding::Shape;
 use compare::random::Random;
@@ -10,7 +10,7 @@ pub struct Inputs {
 }
 
 impl Inputs {
-    fn new(name: &'static str) -> Inputs {
+    pub fn new(name: &'static str) -> Inputs {
         Inputs {
             name,
             bytes: Vec::new(),
@@ -18,7 +18,7 @@ impl Inputs {
         }
     }
 
-    fn push(&mut self, code: &[u8]) {
+    pub fn push(&mut self, code: &[u8]) {
         self.bytes.extend_from_slice(code);
         self.ends.push(self.bytes.len());
     }

@@ -3,7 +3,14 @@
 //! The generator has its own copy of the instruction table and of the prefix layouts. It shares no
 //! code with the library or the reference, so that a slip in one of the three shows.
 
+pub mod coverage;
 pub mod decoding;
+pub mod display;
 pub mod encoding;
+mod fields;
+pub mod form;
 pub mod guard;
 pub mod random;
+pub mod state;
+pub mod stepping;
+pub mod tally;

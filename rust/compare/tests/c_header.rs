@@ -62,7 +62,9 @@ fn c_program_runs_against_the_archive() {
     let expected = "accepted: 0 6 8 1 256 1 17 9 0 3 1 1 0 0\n\
                     too short: 2 0 0 0 0 0 0 0 0 0 0 0 0 0\n\
                     empty: 2 0 0 0 0 0 0 0 0 0 0 0 0 0\n\
-                    features: 1 0 0 0 0 0 0 0 0 0 0 0 0 0\n";
+                    features: 1 0 0 0 0 0 0 0 0 0 0 0 0 0\n\
+                    step: 0 7, bytes 0 5 8 0 0\n\
+                    refused step: 6 0, bytes 5 8\n";
     assert_eq!(printed, expected);
 }
 

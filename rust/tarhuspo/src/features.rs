@@ -1,4 +1,5 @@
-//! Processor features: one bit each, added up to the number that [`decode`](crate::decode) takes.
+//! Processor features: one bit each, added up to the number that [`decode`](crate::decode) and
+//! [`step`](crate::step()) take.
 //!
 //! ```
 //! use tarhuspo::{decode, features};

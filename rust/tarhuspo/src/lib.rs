@@ -1,4 +1,4 @@
-//! Safe Rust interface to Tarhuspo, a proved decoder of AVX permute instructions.
+//! Safe Rust interface to Tarhuspo, a proved decoder and emulator of AVX permute instructions.
 //!
 //! All of the work is done by a static library written and proved in Rattle. This crate declares
 //! its C functions and turns slices into pointers and lengths. The proved functions accept every
@@ -15,9 +15,12 @@
 mod decode;
 pub mod features;
 mod ffi;
+pub mod limits;
 mod mnemonic;
 mod status;
+mod step;
 
 pub use decode::{decode, Decoded};
 pub use mnemonic::mnemonic_name;
 pub use status::describe;
+pub use step::{step, Stepped};

@@ -2,8 +2,8 @@
 
 /// One sentence on what a status number means.
 ///
-/// Decoding gives 0 to 5. The numbers 6 to 9 belong to functions that carry out instructions and
-/// work on byte maps.
+/// Decoding gives 0 to 5, and a step 0 to 6. The numbers 7 to 9 belong to lists of instructions and
+/// to byte maps.
 ///
 /// ```
 /// use tarhuspo::{decode, describe, features};

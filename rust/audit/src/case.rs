@@ -1,0 +1,160 @@
+//! The cases of an audit, each a function of seed and number alone.
+
+use crate::damage::{applies, damage, FIELDS};
+use crate::detect::{feature_names, Capabilities, RegisterSet};
+use crate::encoding::{Fields, Third};
+use crate::random::Random;
+use crate::shape::{Form, Shape};
+use crate::state::State;
+use reference::limits::feature;
+use reference::Field;
+
+/// One instruction and everything that it reads.
+#[derive(Debug, Clone)]
+pub struct Case {
+    pub number: u64,
+    pub shape: Shape,
+    /// The field that is wrong, if the instruction is to be refused.
+    pub damage: Option<Field>,
+    pub fields: Fields,
+    pub code: Vec<u8>,
+    /// Bytes behind the instruction, for the engine alone: its length must not depend on them.
+    pub trailing: Vec<u8>,
+    pub features: u32,
+    pub state: State,
+    pub memory: Vec<u8>,
+}
+
+impl Case {
+    /// What the engine gets to decode.
+    pub fn engine_code(&self) -> Vec<u8> {
+        [self.code.as_slice(), self.trailing.as_slice()].concat()
+    }
+
+    /// The register that is written; none if the instruction is refused.
+    pub fn destination(&self) -> Option<usize> {
+        let destination = usize::from(self.fields.destination);
+        self.damage.is_none().then_some(destination)
+    }
+
+    /// Whether the destination is also a source.
+    pub fn overlaps(&self) -> bool {
+        let destination = self.fields.destination;
+        let is_first = self.shape.row.first && self.fields.first == destination;
+        is_first
+            || matches!(self.fields.third, Third::Register { number, .. } if number == destination)
+    }
+}
+
+/// Which shapes can be audited on this machine, and which not.
+pub struct Plan {
+    apx: bool,
+    accepted: Vec<Shape>,
+    damaged: Vec<(Shape, Field)>,
+    pub skipped: Vec<(Form, String)>,
+}
+
+impl Plan {
+    pub fn new(capabilities: Capabilities) -> Plan {
+        let mut plan = Plan {
+            apx: capabilities.apx(),
+            accepted: Vec::new(),
+            damaged: Vec::new(),
+            skipped: Vec::new(),
+        };
+        for shape in Shape::all() {
+            match lacking(shape, capabilities) {
+                Some(reason) => plan.skip(shape, reason),
+                None => plan.accepted.push(shape),
+            }
+        }
+        for field in FIELDS {
+            let shapes = plan.accepted.iter().copied();
+            let damaged = shapes.filter(|shape| applies(*shape, field));
+            plan.damaged.extend(damaged.map(|shape| (shape, field)));
+        }
+        plan
+    }
+
+    fn skip(&mut self, shape: Shape, reason: String) {
+        let skipped = (shape.form(), reason);
+        if !self.skipped.contains(&skipped) {
+            self.skipped.push(skipped);
+        }
+    }
+
+    /// Three accepted encodings, then a damaged one. Shapes and fields take turns, so that a
+    /// bounded run misses none.
+    fn pick(&self, number: u64) -> (Shape, Option<Field>) {
+        let (round, turn) = (number / 4, number % 4);
+        let place = |number: u64, count: usize| (number % count as u64) as usize;
+        if turn == 3 {
+            let (shape, field) = self.damaged[place(round, self.damaged.len())];
+            return (shape, Some(field));
+        }
+        let shape = self.accepted[place(3 * round + turn, self.accepted.len())];
+        (shape, None)
+    }
+
+    pub fn case(&self, seed: u64, number: u64) -> Case {
+        let mut random = Random::for_case(seed, number);
+        let (shape, field) = self.pick(number);
+        let mut fields = Fields::random(shape, &mut random);
+        // Features beyond the needed ones do not matter, and for a wrong field none do.
+        let mut features = u32::from(random.below(feature::ALL as u8 + 1));
+        match field {
+            Some(field) => damage(&mut fields, field, self.apx, &mut random),
+            None => features |= shape.needed_features(),
+        }
+        Case {
+            number,
+            shape,
+            damage: field,
+            code: fields.bytes(),
+            fields,
+            trailing: trailing(&mut random),
+            features,
+            state: random_state(&mut random),
+            memory: random.bytes(shape.memory()),
+        }
+    }
+}
+
+/// Why this machine cannot run the shape, if so.
+fn lacking(shape: Shape, capabilities: Capabilities) -> Option<String> {
+    let missing = shape.needed_features() & !capabilities.features();
+    if missing != 0 {
+        return Some(feature_names(missing));
+    }
+    let set = capabilities.register_set();
+    let has_opmasks = set.is_some_and(RegisterSet::has_opmasks);
+    (shape.is_evex() && !has_opmasks).then(|| "avx512bw".to_string())
+}
+
+/// No byte half of the time, else a few.
+fn trailing(random: &mut Random) -> Vec<u8> {
+    let count = random.bit() * random.below(9);
+    random.bytes(usize::from(count))
+}
+
+fn random_state(random: &mut Random) -> State {
+    let mut state = State::ZERO;
+    random.fill(&mut state.file);
+    for mask in &mut state.masks {
+        *mask = random_mask(random);
+    }
+    state
+}
+
+/// Half of the masks are plain random numbers. The others have few, many, all or no bits. All but
+/// the last kind have bits past the last element of most vectors.
+fn random_mask(random: &mut Random) -> u64 {
+    let word = random.word();
+    match random.below(8) {
+        0 => word & random.word() & random.word(),
+        1 => word | random.word() | random.word(),
+        2 => u64::MAX,
+        3 => 0,
+        _ => word,
+    }
+}

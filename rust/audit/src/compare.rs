@@ -1,0 +1,357 @@
+//! One case on the processor and on an engine.
+
+use crate::case::Case;
+use crate::detect::RegisterSet;
+use crate::difference::Finding;
+use crate::engine::Engine;
+use crate::guarded::Guarded;
+use crate::processor::{Outcome, Processor};
+use crate::state::{FILE_SIZE, MASKS, REGISTER_SIZE};
+use reference::limits::feature;
+
+const FILL: u8 = 0xA5;
+const FILL_MASK: u64 = 0xA5A5_A5A5_A5A5_A5A5;
+
+/// The processor, and the buffers that engines get.
+pub struct Comparison {
+    processor: Processor,
+    code: Guarded<u8>,
+    file: Guarded<u8>,
+    masks: Guarded<u64>,
+    memory: Guarded<u8>,
+}
+
+impl Comparison {
+    pub fn new(processor: Processor) -> Comparison {
+        Comparison {
+            processor,
+            code: Guarded::new(FILL),
+            file: Guarded::new(FILL),
+            masks: Guarded::new(FILL_MASK),
+            memory: Guarded::new(FILL),
+        }
+    }
+
+    /// Everything that is not as it should be.
+    pub fn check(&mut self, engine: &mut dyn Engine, case: &Case) -> Vec<Finding> {
+        if !is_read_alike(case) {
+            return vec![Finding::Encoding];
+        }
+        let mut findings = Vec::new();
+        let outcome = self.processor.run(&case.code, &case.state, &case.memory);
+        let answer = self.step(engine, case);
+        findings.extend(compare_outcome(case, outcome));
+        findings.extend(compare_answer(case, answer));
+        findings.extend(self.compare_registers(case));
+        findings.extend(self.compare_masks(case));
+        findings.extend(self.written_by_processor());
+        findings.extend(self.written_by_engine(case));
+        findings
+    }
+
+    fn step(&mut self, engine: &mut dyn Engine, case: &Case) -> (u32, u32) {
+        self.code.set(&case.engine_code());
+        self.file.set(&case.state.file);
+        self.masks.set(&case.state.masks);
+        self.memory.set(&case.memory);
+        engine.step(
+            self.code.content(),
+            self.file.content_mut(),
+            self.masks.content(),
+            case.features,
+            self.memory.content(),
+        )
+    }
+
+    /// Compares all 2,048 bytes of the register file.
+    fn compare_registers(&self, case: &Case) -> Option<Finding> {
+        let engine: &[u8; FILE_SIZE] = self.file.content().try_into().expect("a whole file");
+        let expected = self.expected_file(case);
+        if *engine == expected {
+            return None;
+        }
+        let mut places = (0..FILE_SIZE).filter(|place| engine[*place] != expected[*place]);
+        let lowest = places.next()?;
+        Some(Finding::Register {
+            register: lowest / REGISTER_SIZE,
+            byte: lowest % REGISTER_SIZE,
+            engine: engine[lowest],
+            expected: expected[lowest],
+            differing: 1 + places.count(),
+        })
+    }
+
+    /// What the processor left. Bytes that a processor without AVX-512 does not have follow the
+    /// rule for bytes above the vector width (cleared in the destination) and for other registers
+    /// (unchanged).
+    fn expected_file(&self, case: &Case) -> [u8; FILE_SIZE] {
+        let registers = self.processor.register_set();
+        let written = case.destination();
+        let mut file = self.processor.after().file;
+        if registers == RegisterSet::Zmm32 {
+            return file;
+        }
+        for (place, byte) in file.iter_mut().enumerate() {
+            let register = place / REGISTER_SIZE;
+            if registers.has(register, place % REGISTER_SIZE) {
+                continue;
+            }
+            *byte = match written {
+                Some(destination) if destination == register => 0,
+                _ => case.state.file[place],
+            };
+        }
+        file
+    }
+
+    /// Compares all opmasks that the processor has with what they were.
+    fn compare_masks(&self, case: &Case) -> Option<Finding> {
+        if !self.processor.register_set().has_opmasks() {
+            return None;
+        }
+        changed_mask(&case.state.masks, &self.processor.after().masks)
+    }
+
+    fn written_by_processor(&mut self) -> Vec<Finding> {
+        let checks = [
+            (
+                self.processor.is_memory_intact(),
+                "the memory operand or the bytes before it changed on the processor",
+            ),
+            (
+                self.processor.is_context_intact(),
+                "the guard bytes around the processor's state changed",
+            ),
+        ];
+        failed(&checks)
+    }
+
+    fn written_by_engine(&self, case: &Case) -> Vec<Finding> {
+        let memory = self.memory.content() == case.memory;
+        let masks = self.masks.content() == case.state.masks;
+        let code = self.code.content() == case.engine_code();
+        let checks = [
+            (memory, "the engine wrote to the memory operand"),
+            (masks, "the engine wrote to the opmasks"),
+            (code, "the engine wrote to the code"),
+            (
+                self.memory.is_intact(),
+                "the engine wrote beside the memory operand",
+            ),
+            (
+                self.masks.is_intact(),
+                "the engine wrote beside the opmasks",
+            ),
+            (self.code.is_intact(), "the engine wrote beside the code"),
+            (
+                self.file.is_intact(),
+                "the engine wrote beside the register file",
+            ),
+        ];
+        failed(&checks)
+    }
+}
+
+/// The lowest opmask that is not as before.
+fn changed_mask(before: &[u64; MASKS], after: &[u64; MASKS]) -> Option<Finding> {
+    let number = (0..MASKS).find(|number| before[*number] != after[*number])?;
+    Some(Finding::Mask {
+        number,
+        found: after[number],
+    })
+}
+
+fn failed(checks: &[(bool, &'static str)]) -> Vec<Finding> {
+    let failed = checks.iter().filter(|(is_intact, _)| !is_intact);
+    failed.map(|(_, what)| Finding::Written(what)).collect()
+}
+
+/// Whether the reference finds the instruction in the bytes that the generator meant. If not, they
+/// are not run.
+fn is_read_alike(case: &Case) -> bool {
+    if case.damage.is_some() {
+        return reference::reserved_field(&case.code, case.features) == case.damage;
+    }
+    let decoded = reference::decode(&case.code, feature::ALL);
+    let fields = &case.fields;
+    let form = case.shape.form();
+    let found = [
+        decoded.status,
+        decoded.length,
+        decoded.mnemonic,
+        decoded.bits,
+        decoded.evex,
+        decoded.destination,
+        decoded.first,
+        decoded.memory,
+        decoded.mask,
+        decoded.zeroing,
+        decoded.broadcast,
+    ];
+    let meant = [
+        0,
+        case.code.len() as u32,
+        case.shape.row.mnemonic,
+        form.bits,
+        u32::from(form.is_evex),
+        u32::from(fields.destination),
+        u32::from(fields.first),
+        case.memory.len() as u32,
+        u32::from(fields.mask),
+        u32::from(fields.zeroing),
+        u32::from(fields.broadcast),
+    ];
+    found == meant
+}
+
+/// The processor carries out an accepted instruction, of exactly these bytes, or raises #UD.
+fn compare_outcome(case: &Case, found: Outcome) -> Option<Finding> {
+    let expected = match case.damage {
+        Some(_) => Outcome::Undefined,
+        None => Outcome::Done {
+            length: case.code.len(),
+        },
+    };
+    (found != expected).then_some(Finding::Processor { expected, found })
+}
+
+/// The engine answers 0 and the length, or 4 and no length.
+fn compare_answer(case: &Case, (status, length): (u32, u32)) -> Vec<Finding> {
+    let (expected_status, expected_length) = match case.damage {
+        Some(_) => (4, 0),
+        None => (0, case.code.len() as u32),
+    };
+    let mut findings = Vec::new();
+    if status != expected_status {
+        findings.push(Finding::Status {
+            expected: expected_status,
+            found: status,
+        });
+    }
+    if length != expected_length {
+        findings.push(Finding::Length {
+            expected: expected_length,
+            found: length,
+        });
+    }
+    findings
+}
+
+#[cfg(test)]
+mod tests {
+    use super::{changed_mask, compare_outcome, Comparison, Finding, Outcome, Processor};
+    use crate::case::{Case, Plan};
+    use crate::detect::{Capabilities, RegisterSet};
+    use crate::engine;
+
+    /// A memory form that is carried out or refused; nothing without AVX-512.
+    fn case(refused: bool) -> Option<Case> {
+        let capabilities = Capabilities::detect();
+        if capabilities.register_set() != Some(RegisterSet::Zmm32) {
+            println!("skipped: no AVX-512 on this machine");
+            return None;
+        }
+        let plan = Plan::new(capabilities);
+        let mut cases = (0..).map(|number| plan.case(1, number));
+        cases.find(|case| case.damage.is_some() == refused && !case.memory.is_empty())
+    }
+
+    fn comparison() -> Comparison {
+        Comparison::new(Processor::new(Capabilities::detect()).expect("pages"))
+    }
+
+    /// Writes where an engine must not.
+    type Spoil = fn(&mut Comparison);
+
+    /// Spoils one buffer after a step of the reference, and gives the findings.
+    fn spoiled(case: &Case, spoil: Spoil) -> Vec<Finding> {
+        let mut comparison = comparison();
+        assert_eq!(comparison.check(&mut engine::reference(), case), []);
+        spoil(&mut comparison);
+        comparison.written_by_engine(case)
+    }
+
+    #[test]
+    fn writes_to_what_is_only_read_are_found() {
+        let Some(case) = case(false) else { return };
+        let spoils: [(&str, Spoil); 3] = [
+            ("memory", |c| c.memory.content_mut()[0] ^= 1),
+            ("opmasks", |c| c.masks.content_mut()[7] ^= 1 << 63),
+            ("code", |c| c.code.content_mut()[3] ^= 1),
+        ];
+        for (name, spoil) in spoils {
+            let findings = spoiled(&case, spoil);
+            let [Finding::Written(text)] = findings[..] else {
+                panic!("{name}: {findings:?}");
+            };
+            assert!(text.contains(name), "{name}: {text}");
+        }
+    }
+
+    #[test]
+    fn writes_beside_buffers_are_found() {
+        let Some(case) = case(true) else { return };
+        let spoils: [Spoil; 4] = [
+            |c| c.memory.with_guards_mut()[63] ^= 1,
+            |c| c.file.with_guards_mut()[64 + 2_048] ^= 1,
+            |c| c.code.with_guards_mut()[0] ^= 1,
+            |c| c.masks.with_guards_mut()[64 + 8] ^= 1,
+        ];
+        for spoil in spoils {
+            let findings = spoiled(&case, spoil);
+            assert!(
+                matches!(findings[..], [Finding::Written(_)]),
+                "{findings:?}"
+            );
+        }
+    }
+
+    #[test]
+    fn each_bit_of_each_opmask_counts() {
+        let before = [0x0123_4567_89AB_CDEF; 8];
+        assert_eq!(changed_mask(&before, &before), None);
+        for bit in 0..8 * 64 {
+            let (number, mut after) = (bit / 64, before);
+            after[number] ^= 1 << (bit % 64);
+            let found = after[number];
+            let finding = Finding::Mask { number, found };
+            assert_eq!(changed_mask(&before, &after), Some(finding));
+        }
+    }
+
+    #[test]
+    fn processor_must_do_what_is_expected() {
+        let (Some(accepted), Some(refused)) = (case(false), case(true)) else {
+            return;
+        };
+        let length = accepted.code.len();
+        let done = Outcome::Done { length };
+        assert_eq!(compare_outcome(&accepted, done), None);
+        assert_eq!(compare_outcome(&refused, Outcome::Undefined), None);
+        let longer = Outcome::Done { length: length + 1 };
+        for outcome in [longer, Outcome::Undefined, Outcome::Fault] {
+            assert!(compare_outcome(&accepted, outcome).is_some(), "{outcome}");
+        }
+        for outcome in [done, Outcome::Fault, Outcome::NotRun("")] {
+            assert!(compare_outcome(&refused, outcome).is_some(), "{outcome}");
+        }
+    }
+
+    #[test]
+    fn bytes_that_mean_something_else_are_not_run() {
+        let (Some(accepted), Some(refused)) = (case(false), case(true)) else {
+            return;
+        };
+        for case in [accepted, refused] {
+            for code in [vec![0x0F, 0x05], [&case.code[..], &[0x90]].concat()] {
+                let case = Case {
+                    code,
+                    damage: None,
+                    ..case.clone()
+                };
+                let findings = comparison().check(&mut engine::reference(), &case);
+                assert_eq!(findings, [Finding::Encoding]);
+            }
+        }
+    }
+}

@@ -1,0 +1,139 @@
+//! A case in which engine and processor differ.
+
+use crate::damage::field_name;
+use crate::processor::Outcome;
+use crate::shape::Form;
+use crate::state::{State, REGISTER_SIZE};
+use reference::Field;
+use std::fmt;
+
+/// One thing that is not as it should be.
+#[derive(Debug, Clone, PartialEq, Eq)]
+pub enum Finding {
+    /// The reference sees another instruction in the bytes than the generator: they were not run.
+    Encoding,
+    /// What the processor did, and should have done.
+    Processor { expected: Outcome, found: Outcome },
+    /// The engine's status.
+    Status { expected: u32, found: u32 },
+    /// The engine's length.
+    Length { expected: u32, found: u32 },
+    /// The lowest register byte that differs, and how many do.
+    Register {
+        register: usize,
+        byte: usize,
+        engine: u8,
+        expected: u8,
+        differing: usize,
+    },
+    /// The processor did not leave an opmask as it was.
+    Mask { number: usize, found: u64 },
+    /// Someone wrote where nothing may be written.
+    Written(&'static str),
+}
+
+impl fmt::Display for Finding {
+    fn fmt(&self, f: &mut fmt::Formatter<'_>) -> fmt::Result {
+        match self {
+            Finding::Encoding => {
+                write!(
+                    f,
+                    "generator and reference read the bytes differently: not run"
+                )
+            }
+            Finding::Processor { expected, found } => {
+                write!(f, "processor: {found}; expected: {expected}")
+            }
+            Finding::Status { expected, found } => {
+                write!(f, "engine: status {found}; expected: status {expected}")
+            }
+            Finding::Length { expected, found } => {
+                write!(
+                    f,
+                    "engine: length {found} bytes; expected: {expected} bytes"
+                )
+            }
+            Finding::Register {
+                register,
+                byte,
+                engine,
+                expected,
+                differing,
+            } => write!(
+                f,
+                "register {register}, byte {byte}: engine {engine:02X}, processor {expected:02X} \
+                 (the lowest of {differing} differing bytes)"
+            ),
+            Finding::Mask { number, found } => {
+                write!(f, "processor: opmask {number} became {found:016X}")
+            }
+            Finding::Written(place) => write!(f, "{place}"),
+        }
+    }
+}
+
+/// Everything that is needed to repeat a case, and what was found.
+#[derive(Debug, Clone)]
+pub struct Difference {
+    pub engine: String,
+    pub seed: u64,
+    pub case: u64,
+    pub form: Form,
+    /// The reserved field that is wrong, if any.
+    pub damage: Option<Field>,
+    pub code: Vec<u8>,
+    /// Bytes behind the instruction that only the engine got.
+    pub trailing: Vec<u8>,
+    pub features: u32,
+    pub memory: Vec<u8>,
+    /// Registers and opmasks before the instruction.
+    pub state: State,
+    pub findings: Vec<Finding>,
+}
+
+impl fmt::Display for Difference {
+    fn fmt(&self, f: &mut fmt::Formatter<'_>) -> fmt::Result {
+        let (engine, seed, case) = (&self.engine, self.seed, self.case);
+        writeln!(f, "difference: engine {engine}, seed {seed}, case {case}")?;
+        for finding in &self.findings {
+            writeln!(f, "  {finding}")?;
+        }
+        write!(f, "instruction: {} ({}", hex(&self.code), self.form)?;
+        match self.damage {
+            Some(field) => writeln!(f, ", wrong field: {})", field_name(field))?,
+            None => writeln!(f, ")")?,
+        }
+        writeln!(
+            f,
+            "bytes behind it, for the engine: {}",
+            hex(&self.trailing)
+        )?;
+        writeln!(f, "features: {}", self.features)?;
+        writeln!(
+            f,
+            "memory, {} bytes: {}",
+            self.memory.len(),
+            hex(&self.memory)
+        )?;
+        for (number, mask) in self.state.masks.iter().enumerate() {
+            writeln!(f, "k{number}: {mask:016X}")?;
+        }
+        let registers = self.state.file.chunks(REGISTER_SIZE).enumerate();
+        for (number, register) in registers {
+            writeln!(
+                f,
+                "register {number} before, byte 0 first: {}",
+                hex(register)
+            )?;
+        }
+        write!(f, "repeat with: audit --seed {seed} --case {case}")
+    }
+}
+
+fn hex(bytes: &[u8]) -> String {
+    if bytes.is_empty() {
+        return "none".to_string();
+    }
+    let bytes: Vec<_> = bytes.iter().map(|byte| format!("{byte:02X}")).collect();
+    bytes.join(" ")
+}

@@ -1,0 +1,36 @@
+//! Audit against the processor.
+//!
+//! Runs vector permute instructions on this machine's own processor and compares the outcome with
+//! that of a software [`Engine`]: after every instruction all 2,048 register bytes, all eight
+//! opmasks, the memory operand and the guard bytes around each buffer. Damaged encodings must be
+//! refused by the engine with status 4 and raise #UD on the processor.
+//!
+//! The audit has its own instruction table and its own encoder. It shares no code with the engines;
+//! the independent reference only decides whether bytes may be executed at all.
+//!
+//! For benchmarks there is [`Sequence`]: many instructions in a row, with nothing in between.
+
+mod audit;
+mod case;
+mod compare;
+mod damage;
+pub mod detect;
+mod difference;
+mod encoding;
+pub mod engine;
+mod guarded;
+pub mod processor;
+mod random;
+mod report;
+mod report_text;
+mod shape;
+mod state;
+
+pub use audit::{audit, Failure, Limit, Options};
+pub use detect::{Capabilities, RegisterSet};
+pub use difference::{Difference, Finding};
+pub use engine::Engine;
+pub use processor::{Outcome, Processor, Sequence};
+pub use report::{Coverage, FormCount, Report, Skipped};
+pub use shape::Form;
+pub use state::State;

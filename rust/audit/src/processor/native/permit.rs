@@ -1,0 +1,104 @@
+//! Which bytes may be executed at all.
+//!
+//! Either the reference accepts them as one whole instruction, or it refuses them with status 4 and
+//! accepts them once the one wrong field is put right. No other bytes reach the processor.
+
+use reference::limits::feature;
+use reference::{decode, reserved_field, Field};
+
+/// Leave to execute an instruction.
+#[derive(Debug, Clone, Copy, PartialEq, Eq)]
+pub struct Permit {
+    /// Bytes of the memory operand, 0 for a register form.
+    pub memory: usize,
+}
+
+/// Leave to execute `code`, or none.
+pub fn permit(code: &[u8]) -> Option<Permit> {
+    if let Some(field) = reserved_field(code, feature::ALL) {
+        return accepted(&repaired(code, field));
+    }
+    accepted(code)
+}
+
+/// The same for instructions that the reference accepts, and for no others.
+pub fn accepted(code: &[u8]) -> Option<Permit> {
+    let decoded = decode(code, feature::ALL);
+    let is_whole = decoded.status == 0 && decoded.length as usize == code.len();
+    is_whole.then_some(Permit {
+        memory: decoded.memory as usize,
+    })
+}
+
+/// The same bytes with one field put right. A field that the prefix lacks is left alone.
+fn repaired(code: &[u8], field: Field) -> Vec<u8> {
+    let mut code = code.to_vec();
+    // The byte with vvvv and L.
+    let q = if code[0] == 0xC5 { 1 } else { 2 };
+    match (code[0], field) {
+        (0x62, Field::FixedBits) => {
+            code[1] &= !0x0C;
+            code[2] |= 0x04;
+        }
+        (0x62, Field::Width) => code[3] &= !0x60,
+        (0x62, Field::Broadcast) => code[3] &= !0x10,
+        (0x62, Field::Zeroing) => code[3] &= !0x80,
+        (0x62, Field::Vvvv) => {
+            code[2] |= 0x78;
+            code[3] |= 0x08;
+        }
+        (0xC4, Field::W) => code[2] &= !0x80,
+        (_, Field::Width) => code[q] |= 0x04,
+        (_, Field::Vvvv) => code[q] |= 0x78,
+        _ => {}
+    }
+    code
+}
+
+#[cfg(test)]
+mod tests {
+    use super::{permit, Permit};
+
+    #[test]
+    fn accepted_instructions_are_permitted() {
+        let register_form = [0xC5, 0xF9, 0x70, 0xCA, 0x1B];
+        assert_eq!(permit(&register_form), Some(Permit { memory: 0 }));
+        let broadcast = [0x62, 0xF1, 0x7D, 0x58, 0x70, 0x08, 0x00];
+        assert_eq!(permit(&broadcast), Some(Permit { memory: 4 }));
+    }
+
+    #[test]
+    fn one_wrong_field_is_permitted() {
+        let damaged: [&[u8]; 8] = [
+            &[0x62, 0xF9, 0x7D, 0x48, 0x70, 0xCA, 0x1B], // fixed bits of P
+            &[0x62, 0xF1, 0x79, 0x48, 0x70, 0xCA, 0x1B], // fixed bit of Q
+            &[0xC4, 0xE3, 0xFD, 0x05, 0xCA, 0x05],       // W
+            &[0x62, 0xF1, 0x7D, 0x68, 0x70, 0xCA, 0x1B], // width 3
+            &[0xC4, 0xE3, 0x69, 0x06, 0xCB, 0x31],       // L
+            &[0xC5, 0xE9, 0x70, 0xCA, 0x1B],             // vvvv
+            &[0x62, 0xF1, 0x7D, 0x58, 0x70, 0xCA, 0x1B], // b
+            &[0x62, 0xF1, 0x7D, 0xC8, 0x70, 0xCA, 0x1B], // z
+        ];
+        for code in damaged {
+            assert!(permit(code).is_some(), "{code:02X?}");
+        }
+    }
+
+    #[test]
+    fn nothing_else_is_permitted() {
+        let refused: [&[u8]; 9] = [
+            &[],
+            &[0x90],
+            &[0x0F, 0x05],                               // syscall
+            &[0xC5, 0xF9, 0x70, 0xCA],                   // too short
+            &[0xC5, 0xF9, 0x70, 0xCA, 0x1B, 0x90],       // a byte behind
+            &[0xC5, 0xF8, 0x11, 0x08],                   // vmovups to memory: no row
+            &[0x62, 0xF1, 0x7D, 0x78, 0x70, 0xCA, 0x1B], // width 3 and b
+            &[0x62, 0xF1, 0x7D, 0xD8, 0x70, 0xCA, 0x1B], // b and z
+            &[0x62, 0xF9, 0x7D, 0x48, 0x11, 0x08],       // fixed bits, and no row
+        ];
+        for code in refused {
+            assert_eq!(permit(code), None, "{code:02X?}");
+        }
+    }
+}

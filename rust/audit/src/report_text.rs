@@ -1,0 +1,148 @@
+//! A report in words.
+
+use crate::damage::field_name;
+use crate::detect::{feature_names, processor_name, RegisterSet};
+use crate::report::{Coverage, FormCount, Report, Skipped};
+use crate::shape::Form;
+use crate::state::{FILE_SIZE, MASKS, REGISTERS, REGISTER_SIZE};
+use reference::Field;
+use std::collections::BTreeMap;
+use std::fmt::{Display, Formatter, Result};
+
+impl Display for Report {
+    fn fmt(&self, f: &mut Formatter<'_>) -> Result {
+        writeln!(f, "engine: {}, seed {}", self.engine, self.seed)?;
+        let Some(set) = self.capabilities.register_set() else {
+            return writeln!(f, "nothing was compared: it takes x86-64 Linux and AVX");
+        };
+        write_machine(f, self, set)?;
+        write_compared(f, self, set)?;
+        write_forms(f, &self.forms)?;
+        write_undefined(f, &self.undefined)?;
+        write_coverage(f, &self.coverage)?;
+        let seconds = self.elapsed.as_secs_f64();
+        let rate = (self.steps() + self.undefined_cases()) as f64 / seconds.max(1e-9);
+        writeln!(
+            f,
+            "time: {seconds:.1} seconds, {rate:.0} instructions a second"
+        )?;
+        writeln!(f, "no difference")
+    }
+}
+
+fn write_machine(f: &mut Formatter<'_>, report: &Report, set: RegisterSet) -> Result {
+    let capabilities = report.capabilities;
+    let features = feature_names(capabilities.features());
+    writeln!(f, "processor: {} ({features})", processor_name())?;
+    if set == RegisterSet::Ymm16 {
+        writeln!(f, "no AVX-512 here: only VEX forms, on registers 0 to 15")?;
+    }
+    if capabilities.apx() {
+        writeln!(
+            f,
+            "APX is on: of the EVEX fixed bits only P bit 2 is fixed here"
+        )?;
+    }
+    writeln!(f, "forms skipped: {}", skipped_forms(&report.skipped))
+}
+
+/// The forms that the machine lacks, on one line.
+fn skipped_forms(skipped: &[Skipped]) -> String {
+    if skipped.is_empty() {
+        return "none".to_string();
+    }
+    let text = |skipped: &Skipped| format!("{} (lacks {})", skipped.form, skipped.lacks);
+    let forms: Vec<_> = skipped.iter().map(text).collect();
+    forms.join("; ")
+}
+
+fn write_compared(f: &mut Formatter<'_>, report: &Report, set: RegisterSet) -> Result {
+    writeln!(
+        f,
+        "instructions compared: {} carried out, {} refused with #UD",
+        report.steps(),
+        report.undefined_cases()
+    )?;
+    writeln!(
+        f,
+        "compared after each: {FILE_SIZE} register bytes ({REGISTERS} registers of {REGISTER_SIZE} \
+         bytes), {MASKS} opmasks of 64 bits,"
+    )?;
+    writeln!(
+        f,
+        "  status, length in bytes, the memory operand, the guard bytes around each buffer"
+    )?;
+    if set == RegisterSet::Ymm16 {
+        writeln!(
+            f,
+            "  the processor has {} of the register bytes and no opmasks; the other bytes must be \
+             unchanged,\n  or cleared in the destination",
+            report.processor_bytes()
+        )?;
+    }
+    Ok(())
+}
+
+/// Column names of the table of forms.
+const COLUMNS: [&str; 7] = [
+    "done",
+    "register",
+    "memory",
+    "broadcast",
+    "masked",
+    "overlap",
+    "#UD",
+];
+
+fn write_forms(f: &mut Formatter<'_>, forms: &BTreeMap<Form, FormCount>) -> Result {
+    writeln!(
+        f,
+        "instructions by form: carried out; of these with the third operand in a register, in"
+    )?;
+    writeln!(
+        f,
+        "  memory, broadcast from memory; under k1 to k7; with the destination as a source; refused"
+    )?;
+    write_row(f, "form", &COLUMNS)?;
+    for (form, count) in forms {
+        let counts = [
+            count.steps,
+            count.registers,
+            count.memory,
+            count.broadcast,
+            count.masked,
+            count.overlapping,
+            count.undefined,
+        ];
+        write_row(f, &form.to_string(), &counts)?;
+    }
+    Ok(())
+}
+
+fn write_row<T: Display>(f: &mut Formatter<'_>, form: &str, columns: &[T]) -> Result {
+    write!(f, "  {form:24}")?;
+    for column in columns {
+        write!(f, "{column:>10}")?;
+    }
+    writeln!(f)
+}
+
+fn write_undefined(f: &mut Formatter<'_>, undefined: &BTreeMap<Field, u64>) -> Result {
+    let text = |(field, count): (&Field, &u64)| format!("{} {count}", field_name(*field));
+    let fields: Vec<_> = undefined.iter().map(text).collect();
+    writeln!(f, "refused by wrong field: {}", fields.join(", "))
+}
+
+fn write_coverage(f: &mut Formatter<'_>, coverage: &Coverage) -> Result {
+    writeln!(
+        f,
+        "different numbers used: {} destination registers, {} first sources, {} third operands,\n  \
+         {} opmask numbers with merging (0 is none), {} with zeroing, {} immediate bytes",
+        coverage.destinations.len(),
+        coverage.first_sources.len(),
+        coverage.third_operands.len(),
+        coverage.merging.len(),
+        coverage.zeroing.len(),
+        coverage.immediates.len()
+    )
+}

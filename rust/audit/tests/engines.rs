@@ -1,0 +1,468 @@
+//! Every engine passes the audit, and those that are wrong on purpose do not.
+
+use audit::{audit, engine, Capabilities, Difference, Engine, Failure, Finding, Form, Limit};
+use audit::{Options, RegisterSet, Report};
+use reference::limits::feature;
+use reference::{decode, Decoded};
+
+const SEED: u64 = 20_240_607;
+/// Each wrong engine must be caught within so many cases.
+const ENOUGH: u64 = 4_000;
+
+fn options(steps: u64) -> Options {
+    Options::new(SEED, Limit::Steps(steps))
+}
+
+/// Whether the processor has all registers. If not, one line says so.
+fn has_all_registers() -> bool {
+    let has = Capabilities::detect().register_set() == Some(RegisterSet::Zmm32);
+    if !has {
+        println!("skipped: no AVX-512 on this machine");
+    }
+    has
+}
+
+fn passed(engine: &mut dyn Engine, options: Options) -> Report {
+    match audit(engine, options) {
+        Ok(report) => report,
+        Err(failure) => panic!("{failure}"),
+    }
+}
+
+fn caught(engine: &mut dyn Engine, options: Options) -> Difference {
+    match audit(engine, options) {
+        Err(Failure::Difference(difference)) => *difference,
+        Err(failure) => panic!("{failure}"),
+        Ok(report) => panic!("not caught: {report}"),
+    }
+}
+
+#[test]
+fn engines_agree_with_the_processor() {
+    for mut engine in engine::all() {
+        let report = passed(&mut engine, options(80_000));
+        println!("{report}");
+        if has_all_registers() {
+            check_coverage(&report);
+        }
+    }
+}
+
+fn check_coverage(report: &Report) {
+    assert_eq!((report.steps(), report.undefined_cases()), (60_000, 20_000));
+    assert_eq!(report.bytes_per_step(), 2_048);
+    assert_eq!(report.processor_bytes(), 2_048);
+    assert_eq!(report.undefined.len(), 6);
+    assert!(report.undefined.values().all(|count| *count > 0));
+    let coverage = &report.coverage;
+    let used = [
+        coverage.destinations.len(),
+        coverage.first_sources.len(),
+        coverage.third_operands.len(),
+        coverage.merging.len(),
+        coverage.zeroing.len(),
+        coverage.immediates.len(),
+    ];
+    assert_eq!(used, [32, 32, 32, 8, 7, 256]);
+}
+
+/// The widths of document 01's table, VEX and EVEX.
+#[test]
+fn every_form_is_compared_or_skipped() {
+    let report = passed(&mut engine::reference(), options(2_000));
+    let compared = report.forms.keys().copied();
+    let skipped = report.skipped.iter().map(|skipped| skipped.form);
+    let mut forms: Vec<Form> = compared.chain(skipped).collect();
+    forms.sort();
+    forms.dedup();
+    let count = |name| forms.iter().filter(|form| form.name == name).count();
+    let names = ["VPERMILPD", "VPERMB", "VUNPCKLPS", "VPSHUFD", "VPERM2F128"];
+    assert_eq!(names.map(count), [5, 3, 5, 5, 1]);
+}
+
+#[test]
+fn forms_that_the_processor_lacks_are_skipped() {
+    if !has_all_registers() {
+        return;
+    }
+    let capabilities = Capabilities::detect().without(feature::AVX512_VBMI);
+    let report = passed(
+        &mut engine::reference(),
+        Options {
+            capabilities,
+            ..options(2_000)
+        },
+    );
+    assert_eq!(report.skipped.len(), 3);
+    for skipped in &report.skipped {
+        assert_eq!(
+            (skipped.form.name, skipped.lacks.as_str()),
+            ("VPERMB", "avx512_vbmi")
+        );
+    }
+    assert_eq!(report.forms.len(), 16);
+}
+
+/// The part for processors with AVX alone: 16 registers of 32 bytes.
+#[test]
+fn vex_forms_are_compared_without_avx512() {
+    let capabilities =
+        Capabilities::detect().without(feature::AVX512F | feature::AVX512VL | feature::AVX512_VBMI);
+    if capabilities.register_set().is_none() {
+        println!("skipped: no AVX on this machine");
+        return;
+    }
+    let narrow = Options {
+        capabilities,
+        ..options(10_000)
+    };
+    let report = passed(&mut engine::reference(), narrow);
+    println!("{report}");
+    assert_eq!(
+        (report.bytes_per_step(), report.processor_bytes()),
+        (2_048, 512)
+    );
+    assert!(report.forms.keys().all(|form| !form.is_evex));
+    for place in 0..2_048 {
+        let difference = caught(&mut Flip { place }, narrow);
+        assert_eq!(difference.case, 0);
+    }
+}
+
+#[test]
+fn nothing_is_compared_without_avx() {
+    let capabilities = Capabilities::detect().without(feature::ALL);
+    let report = passed(
+        &mut engine::reference(),
+        Options {
+            capabilities,
+            ..options(100)
+        },
+    );
+    assert_eq!((report.steps(), report.undefined_cases()), (0, 0));
+    assert!(report.to_string().contains("nothing was compared"));
+}
+
+/// Wrong in a single bit of one byte of the file.
+struct Flip {
+    place: usize,
+}
+
+impl Engine for Flip {
+    fn name(&self) -> &str {
+        "one byte wrong"
+    }
+
+    fn step(
+        &mut self,
+        code: &[u8],
+        file: &mut [u8],
+        masks: &[u64],
+        features: u32,
+        memory: &[u8],
+    ) -> (u32, u32) {
+        let answer = engine::reference().step(code, file, masks, features, memory);
+        file[self.place] ^= 1 << (self.place % 8);
+        answer
+    }
+}
+
+#[test]
+fn each_of_the_2048_bytes_counts() {
+    if !has_all_registers() {
+        return;
+    }
+    // Case 0 is carried out, case 3 is refused.
+    for first_case in [0, 3] {
+        for place in 0..2_048 {
+            let options = Options {
+                first_case,
+                ..options(1)
+            };
+            let difference = caught(&mut Flip { place }, options);
+            let [Finding::Register {
+                register,
+                byte,
+                engine,
+                expected,
+                differing,
+            }] = difference.findings[..]
+            else {
+                panic!("{difference}");
+            };
+            assert_eq!((64 * register + byte, differing), (place, 1));
+            assert_eq!(engine ^ expected, 1 << (place % 8));
+        }
+    }
+}
+
+/// What a wrong engine knows about a step that the reference has done.
+struct Call<'a> {
+    code: &'a [u8],
+    before: &'a [u8],
+    masks: &'a [u64],
+    memory: &'a [u8],
+    decoded: Decoded,
+}
+
+impl Call<'_> {
+    /// The destination's bytes.
+    fn destination(&self) -> std::ops::Range<usize> {
+        let start = 64 * self.decoded.destination as usize;
+        start..start + 64
+    }
+
+    /// The file after the same step under other masks.
+    fn with_masks(&self, masks: &[u64]) -> Vec<u8> {
+        self.from(self.before.to_vec(), masks)
+    }
+
+    fn from(&self, mut file: Vec<u8>, masks: &[u64]) -> Vec<u8> {
+        reference::step(self.code, &mut file, masks, feature::ALL, self.memory);
+        file
+    }
+}
+
+/// Changes what the reference did. It is called for accepted and for refused steps.
+type Change = fn(&Call, &mut [u8], &mut (u32, u32));
+
+struct Wrong {
+    name: &'static str,
+    change: Change,
+}
+
+impl Engine for Wrong {
+    fn name(&self) -> &str {
+        self.name
+    }
+
+    fn step(
+        &mut self,
+        code: &[u8],
+        file: &mut [u8],
+        masks: &[u64],
+        features: u32,
+        memory: &[u8],
+    ) -> (u32, u32) {
+        let before = file.to_vec();
+        let mut answer = engine::reference().step(code, file, masks, features, memory);
+        let call = Call {
+            code,
+            before: &before,
+            masks,
+            memory,
+            decoded: decode(code, feature::ALL),
+        };
+        (self.change)(&call, file, &mut answer);
+        answer
+    }
+}
+
+/// Runs a wrong engine, sees it caught, and gives what was found.
+fn findings(name: &'static str, change: Change) -> Option<Vec<Finding>> {
+    if !has_all_registers() {
+        return None;
+    }
+    let difference = caught(&mut Wrong { name, change }, options(ENOUGH));
+    let again = Options {
+        first_case: difference.case,
+        ..options(1)
+    };
+    let repeated = caught(&mut Wrong { name, change }, again);
+    assert_eq!(repeated.code, difference.code, "a case repeats alone");
+    assert_eq!(repeated.findings, difference.findings);
+    let text = difference.to_string();
+    assert!(text.contains(name) && text.contains(&format!("--case {}", difference.case)));
+    Some(difference.findings)
+}
+
+/// A wrong engine whose only slip is in register bytes.
+fn register_bytes_differ(name: &'static str, change: Change) {
+    let Some(findings) = findings(name, change) else {
+        return;
+    };
+    assert!(
+        matches!(findings[..], [Finding::Register { .. }]),
+        "{findings:?}"
+    );
+}
+
+fn status_differs(name: &'static str, change: Change) {
+    let Some(findings) = findings(name, change) else {
+        return;
+    };
+    assert!(
+        matches!(findings[..], [Finding::Status { .. }]),
+        "{findings:?}"
+    );
+}
+
+fn length_differs(name: &'static str, change: Change) {
+    let Some(findings) = findings(name, change) else {
+        return;
+    };
+    assert!(
+        matches!(findings[..], [Finding::Length { .. }]),
+        "{findings:?}"
+    );
+}
+
+#[test]
+fn byte_63_kept_instead_of_cleared() {
+    register_bytes_differ("keeps byte 63", |call, file, answer| {
+        if answer.0 == 0 && call.decoded.bits < 512 {
+            let last = call.destination().end - 1;
+            file[last] = call.before[last];
+        }
+    });
+}
+
+#[test]
+fn wrong_from_byte_8_on() {
+    let name = "right in bytes 0 to 7 only";
+    let found = findings(name, |call, file, answer| {
+        if answer.0 == 0 {
+            let wrong = call.destination().start + 8..call.destination().end;
+            file[wrong].iter_mut().for_each(|byte| *byte ^= 0xFF);
+        }
+    });
+    let Some(found) = found else { return };
+    let [Finding::Register {
+        byte, differing, ..
+    }] = found[..]
+    else {
+        panic!("{found:?}");
+    };
+    assert_eq!((byte, differing), (8, 56));
+}
+
+#[test]
+fn mask_bit_counted_per_byte() {
+    register_bytes_differ("a mask bit for each byte", |call, file, answer| {
+        let decoded = call.decoded;
+        if answer.0 != 0 || decoded.mask == 0 {
+            return;
+        }
+        let all = call.with_masks(&[u64::MAX; 8]);
+        let mask = call.masks[decoded.mask as usize];
+        for (j, place) in call.destination().enumerate() {
+            let kept = if decoded.zeroing == 1 {
+                0
+            } else {
+                call.before[place]
+            };
+            let is_above = j >= decoded.bits as usize / 8;
+            let is_written = is_above || mask >> j & 1 == 1;
+            file[place] = if is_written { all[place] } else { kept };
+        }
+    });
+}
+
+#[test]
+fn merging_instead_of_zeroing() {
+    register_bytes_differ("merges always", |call, file, answer| {
+        if answer.0 == 0 && call.decoded.zeroing == 1 {
+            let mut merging = call.code.to_vec();
+            merging[3] &= 0x7F;
+            let mut start = call.before.to_vec();
+            reference::step(&merging, &mut start, call.masks, feature::ALL, call.memory);
+            file.copy_from_slice(&start);
+        }
+    });
+}
+
+#[test]
+fn destination_written_before_it_is_read() {
+    register_bytes_differ("clears the destination first", |call, file, answer| {
+        if answer.0 == 0 && call.decoded.mask == 0 {
+            let mut start = call.before.to_vec();
+            start[call.destination()].fill(0);
+            let after = call.from(start, call.masks);
+            file[call.destination()].copy_from_slice(&after[call.destination()]);
+        }
+    });
+}
+
+#[test]
+fn only_the_last_lane_wrong() {
+    register_bytes_differ("last lane of 512 bits", |call, file, answer| {
+        if answer.0 == 0 && call.decoded.bits == 512 {
+            let last = call.destination().end - 16..call.destination().end;
+            file[last].rotate_left(1);
+        }
+    });
+}
+
+#[test]
+fn another_register_written() {
+    register_bytes_differ("writes register 31 too", |call, file, answer| {
+        if answer.0 == 0 && call.decoded.destination != 31 {
+            file[2_047] ^= 0x80;
+        }
+    });
+}
+
+#[test]
+fn registers_changed_by_a_refusal() {
+    register_bytes_differ("a refusal changes a byte", |_, file, answer| {
+        if answer.0 == 4 {
+            file[1_000] = !file[1_000];
+        }
+    });
+}
+
+#[test]
+fn wrong_status_of_a_refusal() {
+    status_differs("3 for 4", |_, _, answer| {
+        if answer.0 == 4 {
+            answer.0 = 3;
+        }
+    });
+}
+
+#[test]
+fn wrong_status_of_an_accepted_step() {
+    status_differs("5 for some 512-bit steps", |call, _, answer| {
+        if answer.0 == 0 && call.decoded.bits == 512 && call.decoded.immediate == 77 {
+            answer.0 = 5;
+        }
+    });
+}
+
+#[test]
+fn reserved_field_not_refused() {
+    let found = findings("accepts everything", |call, _, answer| {
+        if answer.0 == 4 {
+            *answer = (0, call.code.len() as u32);
+        }
+    });
+    let Some(found) = found else { return };
+    assert!(matches!(
+        found[..],
+        [
+            Finding::Status {
+                expected: 4,
+                found: 0
+            },
+            Finding::Length { expected: 0, .. }
+        ]
+    ));
+}
+
+#[test]
+fn length_of_all_the_bytes() {
+    length_differs("takes trailing bytes along", |call, _, answer| {
+        if answer.0 == 0 {
+            answer.1 = call.code.len() as u32;
+        }
+    });
+}
+
+#[test]
+fn length_of_a_refusal() {
+    length_differs("a refusal has a length", |_, _, answer| {
+        if answer.0 == 4 {
+            answer.1 = 4;
+        }
+    });
+}

@@ -1,0 +1,289 @@
+//! Instructions on the processor, with outcomes that are known beforehand.
+
+#![cfg(all(
+    target_arch = "x86_64",
+    target_os = "linux",
+    target_pointer_width = "64"
+))]
+
+use audit::{Capabilities, Outcome, Processor, RegisterSet, State};
+use reference::limits::feature;
+
+/// A processor with all registers, or one line that says why not.
+fn processor() -> Option<Processor> {
+    let capabilities = Capabilities::detect();
+    let has_all = capabilities.features() == feature::ALL
+        && capabilities.register_set() == Some(RegisterSet::Zmm32);
+    if !has_all {
+        println!("skipped: this machine lacks some of AVX-512");
+        return None;
+    }
+    Some(Processor::new(capabilities).expect("pages to execute instructions in"))
+}
+
+/// Different bytes in neighbouring places, and masks with some bits.
+fn state() -> State {
+    let mut state = State::ZERO;
+    for (place, byte) in state.file.iter_mut().enumerate() {
+        *byte = ((place + 37 * (place / 256)) % 251 + 1) as u8;
+    }
+    for (number, mask) in state.masks.iter_mut().enumerate() {
+        *mask = 0x9669_5AA5_3CC3_0FF0_u64.rotate_left(5 * number as u32);
+    }
+    state
+}
+
+#[test]
+fn detection_agrees_with_the_standard_library() {
+    let expected = [
+        (feature::AVX, is_x86_feature_detected!("avx")),
+        (feature::AVX2, is_x86_feature_detected!("avx2")),
+        (feature::AVX512F, is_x86_feature_detected!("avx512f")),
+        (feature::AVX512VL, is_x86_feature_detected!("avx512vl")),
+        (feature::AVX512_VBMI, is_x86_feature_detected!("avx512vbmi")),
+    ];
+    let features = Capabilities::detect().features();
+    for (bit, has) in expected {
+        assert_eq!(features & bit != 0, has, "feature bit {bit}");
+    }
+}
+
+#[test]
+fn all_registers_are_loaded_and_stored() {
+    let Some(mut processor) = processor() else {
+        return;
+    };
+    // vpshufd xmm1, xmm2, 0x1b
+    let state = state();
+    let outcome = processor.run(&[0xC5, 0xF9, 0x70, 0xCA, 0x1B], &state, &[]);
+    assert_eq!(outcome, Outcome::Done { length: 5 });
+    let mut expected = state.clone();
+    expected.file[64..128].fill(0);
+    for j in 0..4 {
+        let source = 128 + 4 * (3 - j);
+        expected.file.copy_within(source..source + 4, 64 + 4 * j);
+    }
+    assert_eq!(*processor.after(), expected);
+    assert!(processor.is_memory_intact() && processor.is_context_intact());
+}
+
+#[test]
+fn high_registers_take_part() {
+    let Some(mut processor) = processor() else {
+        return;
+    };
+    // vpshufd zmm17, zmm26, 0xe4: a copy
+    let state = state();
+    let outcome = processor.run(&[0x62, 0x81, 0x7D, 0x48, 0x70, 0xCA, 0xE4], &state, &[]);
+    assert_eq!(outcome, Outcome::Done { length: 7 });
+    let mut expected = state.clone();
+    expected.file.copy_within(26 * 64..27 * 64, 17 * 64);
+    assert_eq!(*processor.after(), expected);
+}
+
+#[test]
+fn undefined_changes_nothing() {
+    let Some(mut processor) = processor() else {
+        return;
+    };
+    let state = state();
+    let undefined: [&[u8]; 5] = [
+        &[0xC5, 0xE9, 0x70, 0xCA, 0x1B],
+        &[0x62, 0xF1, 0x7D, 0xC8, 0x70, 0xCA, 0x1B],
+        &[0x62, 0xF1, 0x7D, 0x68, 0x70, 0xCA, 0x1B],
+        &[0xC4, 0xE3, 0x69, 0x06, 0xCB, 0x31],
+        &[0x62, 0xF2, 0x6D, 0x58, 0x8D, 0x08],
+    ];
+    for code in undefined {
+        let memory = [0x77; 64];
+        let outcome = processor.run(code, &state, &memory);
+        assert_eq!(outcome, Outcome::Undefined, "{code:02X?}");
+        assert_eq!(*processor.after(), state, "{code:02X?}");
+        assert!(processor.is_memory_intact() && processor.is_context_intact());
+    }
+}
+
+/// Memory forms with rax as the base, and the bytes that they read.
+const MEMORY_FORMS: [(&[u8], usize); 9] = [
+    (&[0xC5, 0xF9, 0x70, 0x08, 0x1B], 16), // vpshufd xmm1, [rax], 0x1b
+    (&[0xC5, 0xFD, 0x70, 0x08, 0x1B], 32), // vpshufd ymm1, [rax], 0x1b
+    (&[0x62, 0xF1, 0x7D, 0x48, 0x70, 0x08, 0x1B], 64), // vpshufd zmm1, [rax], 0x1b
+    (&[0x62, 0xF1, 0x7D, 0x58, 0x70, 0x08, 0x1B], 4), // vpshufd zmm1, [rax]{1to16}, 0x1b
+    (&[0x62, 0xF3, 0xFD, 0x58, 0x05, 0x08, 0x05], 8), // vpermilpd zmm1, [rax]{1to8}, 5
+    (&[0x62, 0xF2, 0xED, 0x48, 0x0D, 0x08], 64), // vpermilpd zmm1, zmm2, [rax]
+    (&[0x62, 0xF2, 0x6D, 0x48, 0x8D, 0x08], 64), // vpermb zmm1, zmm2, [rax]
+    (&[0xC5, 0xE8, 0x14, 0x08], 16),       // vunpcklps xmm1, xmm2, [rax]
+    (&[0xC4, 0xE3, 0x6D, 0x06, 0x08, 0x31], 32), // vperm2f128 ymm1, ymm2, [rax], 0x31
+];
+
+#[test]
+fn reading_past_the_operand_is_a_fault() {
+    let Some(mut processor) = processor() else {
+        return;
+    };
+    let state = state();
+    let memory: Vec<u8> = (1..=64).collect();
+    for (code, wanted) in MEMORY_FORMS {
+        let length = code.len();
+        let outcome = processor.run(code, &state, &memory[..wanted]);
+        assert_eq!(outcome, Outcome::Done { length }, "{code:02X?}");
+        for short in [wanted - 1, wanted / 2, 0] {
+            let outcome = processor.run(code, &state, &memory[..short]);
+            assert_eq!(outcome, Outcome::Fault, "{code:02X?} with {short} bytes");
+            assert_eq!(*processor.after(), state, "{code:02X?} with {short} bytes");
+        }
+    }
+}
+
+/// Document 01 wants memory in full even if every mask bit is 0, and so does the processor.
+#[test]
+fn masked_elements_are_read_too() {
+    let Some(mut processor) = processor() else {
+        return;
+    };
+    let mut state = state();
+    state.masks[3] = 0;
+    let evex = MEMORY_FORMS.iter().filter(|(code, _)| code[0] == 0x62);
+    for (code, wanted) in evex {
+        let mut code = code.to_vec();
+        code[3] |= 3;
+        let memory = vec![0x77; *wanted];
+        let length = code.len();
+        let outcome = processor.run(&code, &state, &memory);
+        assert_eq!(outcome, Outcome::Done { length }, "{code:02X?}");
+        let outcome = processor.run(&code, &state, &memory[1..]);
+        assert_eq!(outcome, Outcome::Fault, "{code:02X?}");
+    }
+}
+
+/// vpshufd xmm1, memory, 0xe4 with every mode, r/m and SIB byte under VEX and EVEX: each way to
+/// name memory leads to the operand.
+#[test]
+fn every_address_leads_to_the_operand() {
+    let Some(mut processor) = processor() else {
+        return;
+    };
+    let state = state();
+    let memory: [u8; 16] = std::array::from_fn(|i| 0xF0 | i as u8);
+    let prefixes: [&[u8]; 4] = [
+        &[0xC4, 0xE1, 0x79, 0x70],
+        &[0xC4, 0x81, 0x79, 0x70],
+        &[0x62, 0xF1, 0x7D, 0x08, 0x70],
+        &[0x62, 0x91, 0x7D, 0x08, 0x70],
+    ];
+    let mut ran = 0;
+    for prefix in prefixes {
+        for tail in memory_tails() {
+            let code = [prefix, tail.as_slice(), &[0xE4]].concat();
+            let length = code.len();
+            let outcome = processor.run(&code, &state, &memory);
+            assert_eq!(outcome, Outcome::Done { length }, "{code:02X?}");
+            assert_eq!(processor.after().file[64..80], memory, "{code:02X?}");
+            ran += 1;
+        }
+    }
+    assert_eq!(ran, 4 * 3 * (7 + 256));
+}
+
+/// ModRM, SIB and an even displacement, for each mode and each r/m or SIB byte.
+fn memory_tails() -> Vec<Vec<u8>> {
+    let mut tails = Vec::new();
+    for mode in 0..3 {
+        for rm in (0..8).filter(|rm| *rm != 4) {
+            tails.push(with_displacement(vec![mode << 6 | 1 << 3 | rm], mode, rm));
+        }
+        for sib in 0..=255 {
+            let start = vec![mode << 6 | 1 << 3 | 4, sib];
+            tails.push(with_displacement(start, mode, sib & 7));
+        }
+    }
+    tails
+}
+
+fn with_displacement(mut tail: Vec<u8>, mode: u8, base: u8) -> Vec<u8> {
+    match (mode, base) {
+        (1, _) => tail.push(0x86),
+        (2, _) | (0, 5) => tail.extend([0x12, 0x34, 0x56, 0x87]),
+        _ => {}
+    }
+    tail
+}
+
+/// vpshufd zmm1, [rsp + 64 * displacement], 0xe4: RSP gets values all around the operand, and the
+/// signal that ends the instruction must arrive whatever RSP is.
+#[test]
+fn stack_pointer_may_be_anything() {
+    let Some(mut processor) = processor() else {
+        return;
+    };
+    let state = state();
+    let memory: [u8; 64] = std::array::from_fn(|i| 0xC0 | i as u8);
+    let mut check = |code: &[u8]| {
+        let length = code.len();
+        let outcome = processor.run(code, &state, &memory);
+        assert_eq!(outcome, Outcome::Done { length }, "{code:02X?}");
+        assert_eq!(processor.after().file[64..128], memory, "{code:02X?}");
+    };
+    for displacement in 0..=255 {
+        check(&[0x62, 0xF1, 0x7D, 0x48, 0x70, 0x4C, 0x24, displacement, 0xE4]);
+    }
+    // Near and far, in steps that leave out no page near the operand.
+    let near = (-1_000_000..1_000_000).step_by(4_000);
+    let far = (i32::MIN..i32::MAX).step_by(8_000_009);
+    for displacement in near.chain(far).chain([i32::MIN, i32::MAX]) {
+        let [a, b, c, d] = displacement.to_le_bytes();
+        check(&[0x62, 0xF1, 0x7D, 0x48, 0x70, 0x8C, 0x24, a, b, c, d, 0xE4]);
+    }
+}
+
+#[test]
+fn other_bytes_are_not_run() {
+    let Some(mut processor) = processor() else {
+        return;
+    };
+    let refused: [&[u8]; 6] = [
+        &[],
+        &[0x90],
+        &[0x0F, 0x05],
+        &[0xC5, 0xF8, 0x11, 0x08],
+        &[0xC5, 0xF9, 0x70, 0xCA],
+        &[0xC5, 0xF9, 0x70, 0xCA, 0x1B, 0xC3],
+    ];
+    for code in refused {
+        let outcome = processor.run(code, &state(), &[]);
+        assert!(matches!(outcome, Outcome::NotRun(_)), "{code:02X?}");
+    }
+}
+
+/// vpshufd xmm1, xmm2, 0xe4 copies 16 bytes.
+fn check_copy(processor: &mut Processor, byte: u8) {
+    let mut state = state();
+    state.file[128..144].fill(byte);
+    let outcome = processor.run(&[0xC5, 0xF9, 0x70, 0xCA, 0xE4], &state, &[]);
+    assert_eq!(outcome, Outcome::Done { length: 5 });
+    assert_eq!(processor.after().file[64..80], [byte; 16]);
+}
+
+#[test]
+fn processors_do_not_disturb_each_other() {
+    let (Some(mut one), Some(mut other)) = (processor(), processor()) else {
+        return;
+    };
+    for byte in 0..100 {
+        check_copy(&mut one, byte);
+        check_copy(&mut other, !byte);
+    }
+    drop(one);
+    check_copy(&mut other, 7);
+    let threads: Vec<_> = (0..4)
+        .map(|_| {
+            std::thread::spawn(|| {
+                let mut processor = processor().expect("as on the first thread");
+                (0..=255).for_each(|byte| check_copy(&mut processor, byte));
+            })
+        })
+        .collect();
+    for thread in threads {
+        thread.join().expect("each thread compares its own copies");
+    }
+}

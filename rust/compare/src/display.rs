@@ -1,0 +1,27 @@
+//! Inputs as text, whole, so that a failed case can be repeated.
+
+use std::fmt::Write;
+
+/// Bytes in hexadecimal, 64 to a line. Lines are numbered if there is more than one: in a register
+/// file that is the number of the register.
+pub fn bytes(name: &str, bytes: &[u8]) -> String {
+    let mut text = format!("{name}, {} bytes:", bytes.len());
+    for (number, line) in bytes.chunks(64).enumerate() {
+        if bytes.len() > 64 {
+            let _ = write!(text, "\n{number:>4}:");
+        }
+        for byte in line {
+            let _ = write!(text, " {byte:02X}");
+        }
+    }
+    text
+}
+
+/// Opmasks in hexadecimal.
+pub fn masks(masks: &[u64]) -> String {
+    let mut text = format!("opmasks, {}:", masks.len());
+    for mask in masks {
+        let _ = write!(text, " {mask:016X}");
+    }
+    text
+}
