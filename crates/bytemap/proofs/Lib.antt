@@ -1,3 +1,9 @@
 -- Lemmas that the proofs of byte maps hand to `search` or cite.
 mod Answers
+mod Rules
+pub mod Laws
+pub mod Acceptance
+pub mod Lists
+mod Building
 mod Fine
+mod Scanning

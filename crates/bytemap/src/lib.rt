@@ -1,12 +1,29 @@
 // Byte maps (document 01: route sheets): for each byte of a register file, the byte of a starting file that it comes from, or zero.
 ghost use mathlib.Core.Path.{_≡_};
+ghost use mathlib.Core.List.{[]};
+ghost use Prim.Native.Nat.{_%_, _≤_};
+ghost use Rattle.seq.specs.Tabulate.{tabulate};
 ghost use lib.ListN.{length, getD};
 ghost use Rattle.seq.specs.Choice.{both};
-ghost use Rattle.isa.specs.Kinds.{fileSize, mapEntries, zeroEntry};
+ghost use Rattle.isa.specs.Kinds.{registers, fileSize, mapEntries, zeroEntry, codeLimit};
+ghost use Rattle.moves.specs.Pick.{moveOf, immediateByte};
+ghost use Rattle.moves.specs.Moved.{registerAt, thirdPart, repeated, controlBy, placed};
+ghost use Rattle.moves.specs.Mappable.{byImmediate, inRegister, mappable};
+ghost use Rattle.bytemap.specs.Build.{buildSplit, refusedAt, scannedOf, identity, entryIn, movedMap, mapOf, refusedBuild, buildOf, mapOnAnswer, mapBuilt};
 ghost use Rattle.bytemap.specs.ByteMap.{fine, applied, composed, applyOf, fileApplied, composeOf, mapComposed};
+use decode::instruction::Decoded;
+use decode::instruction::Instruction;
+use decode::instruction::Third;
+use isa::features::Features;
 use isa::kinds::ByteMap;
+use isa::kinds::Code;
+use isa::kinds::Mask;
+use isa::kinds::Offset;
+use isa::kinds::Reg;
 use isa::kinds::RegisterFile;
 use isa::refusal::Refusal;
+use moves::Move;
+use moves::Origin;
 use run::Answer;
 use seq::byte_at;
 
@@ -107,4 +124,233 @@ pub fn compose(first: &[u16], second: &[u16], out: &mut [u16]) -> Answer
         return Answer::Done;
     }
     Answer::Refused(Refusal::BadEntry)
+}
+
+pub struct Built {
+    // The list's length, or where the refused step starts.
+    pub place: usize,
+    pub answer: Answer,
+}
+
+fn refused_at(place: usize, decoded: Decoded) -> Built
+    ensures { λ r. ⌜ r ≡ refusedAt place decoded ⌝ }
+{
+    match decoded {
+        Decoded::Refused(why) => Built {
+            place: place,
+            answer: Answer::Refused(why),
+        },
+        Decoded::Accepted(_) => Built {
+            place: place,
+            answer: Answer::Refused(Refusal::Unmappable),
+        },
+    }
+}
+
+fn in_register(third: Third) -> bool
+    ensures { λ r. ⌜ r ≡ inRegister third ⌝ }
+{
+    match third {
+        Third::Register(_) => true,
+        Third::Memory(_) => false,
+    }
+}
+
+fn by_immediate(kind: Move) -> bool
+    ensures { λ r. ⌜ r ≡ byImmediate kind ⌝ }
+{
+    match kind {
+        Move::LaneByImmediate => true,
+        Move::LaneByThird => false,
+        Move::AnyByFirst => false,
+        Move::UnpackLow => true,
+        Move::LaneOrZero => true,
+    }
+}
+
+// Whether a byte map can say what the instruction does.
+fn is_mappable(x: Instruction) -> bool
+    ensures { λ r. ⌜ r ≡ mappable x ⌝ }
+{
+    let third = x.third;
+    let mnemonic = x.mnemonic;
+    let immediate = x.immediate;
+    if in_register(third) {
+        return by_immediate(moves::move_of(mnemonic, immediate));
+    }
+    false
+}
+
+// Looks for a step that is refused, and writes nothing.
+fn scan(code: &[u8], features: Features) -> Built
+    requires { ⌜ length (now code) ≤ codeLimit ⌝ }
+    ensures { λ r. ⌜ r ≡ scannedOf (now (code .entry)) (features .0) ⌝ }
+{
+    let mut place: usize = 0;
+    while place < code.len() {
+        let decoded = decode::decode(&code[place..], features);
+        let Decoded::Accepted(x) = decoded else {
+            return refused_at(place, decoded);
+        };
+        if is_mappable(x) {
+            place += x.length;
+        } else {
+            return Built {
+                place: place,
+                answer: Answer::Refused(Refusal::Unmappable),
+            };
+        }
+    }
+    Built {
+        place: place,
+        answer: Answer::Done,
+    }
+}
+
+fn register_entry(map: &[u16], register: Reg, i: u32) -> u16
+    ensures { λ r. ⌜ r ≡ registerAt zeroEntry (now (map .entry)) register i ⌝ }
+{
+    let at = Offset::of(register, i);
+    entry_at(map, at.number() as usize)
+}
+
+fn third_entry(map: &[u16], third: Third, j: u32) -> u16
+    requires { ⌜ length (now map) ≡ mapEntries ⌝ }
+    ensures { λ r. ⌜ r ≡ repeated zeroEntry (thirdPart third [] (now (map .entry))) j ⌝ }
+{
+    match third {
+        Third::Register(register) => register_entry(map, register, j),
+        Third::Memory(_) => ByteMap::ZERO,
+    }
+}
+
+// The control, which no entry has.
+fn control(x: Instruction) -> u8
+    ensures { λ r. ⌜ r ≡ controlBy (moveOf (x .mnemonic) (x .immediate)) (immediateByte (x .immediate)) 0 0 ⌝ }
+{
+    let mnemonic = x.mnemonic;
+    let immediate = x.immediate;
+    let kind = moves::move_of(mnemonic, immediate);
+    if by_immediate(kind) {
+        return moves::immediate_byte(immediate);
+    }
+    0
+}
+
+// The destination's entry i.
+fn entry(x: Instruction, bits: u64, map: &[u16], i: u8) -> u16
+    requires { ⌜ length (now map) ≡ mapEntries ⌝ }
+    ensures { λ r. ⌜ r ≡ entryIn x bits (now (map .entry)) i ⌝ }
+{
+    let first = x.first;
+    let third = x.third;
+    let destination = x.destination;
+    match moves::origin_of(x, bits, control(x), i) {
+        Origin::First(j) => register_entry(map, moves::first_register(first), j as u32),
+        Origin::Third(j) => third_entry(map, third, j as u32),
+        Origin::Zero => ByteMap::ZERO,
+        Origin::Kept => register_entry(map, destination, i as u32),
+    }
+}
+
+fn entries(x: Instruction, bits: u64, map: &[u16]) -> [u16; 64]
+    requires { ⌜ length (now map) ≡ mapEntries ⌝ }
+    ensures { λ r. ⌜ r ≡ tabulate 64 (entryIn x bits (now (map .entry))) ⌝ }
+{
+    let mut new = [0u16; 64];
+    for i in 0..64 {
+        new[i] = entry(x, bits, map, i as u8);
+    }
+    new
+}
+
+// Puts 64 entries into a register.
+fn put_entries(map: &mut [u16], register: Reg, new: [u16; 64])
+    requires { ⌜ length (now map) ≡ mapEntries ⌝ }
+    ensures { λ _. ⌜ now (map .exit) ≡ tabulate (length (now (map .entry))) (placed zeroEntry (now (map .entry)) (register .0 % registers) (λ i. getD new i 0)) ⌝ }
+{
+    let at = Offset::of(register, 0);
+    let start = at.number() as usize;
+    for i in 0..64 {
+        map[start + i] = new[i];
+    }
+}
+
+// Carries a step out on a map's entries.
+fn step_map(x: Instruction, masks: &[u64], map: &mut [u16])
+    requires { ⌜ length (now map) ≡ mapEntries ⌝ }
+    ensures { λ _. ⌜ now (map .exit) ≡ movedMap x (now (masks .entry)) (now (map .entry)) ⌝ }
+{
+    let mask = x.mask;
+    let destination = x.destination;
+    let new = entries(x, moves::mask_bits(masks, mask), map);
+    put_entries(map, destination, new);
+}
+
+fn fill_identity(map: &mut [u16])
+    requires { ⌜ length (now map) ≡ mapEntries ⌝ }
+    ensures { λ _. ⌜ now (map .exit) ≡ identity ⌝ }
+{
+    for i in 0..ByteMap::ENTRIES {
+        map[i] = i as u16;
+    }
+}
+
+// Carries the steps of an accepted list out on the map that moves nothing.
+fn write_steps(code: &[u8], masks: &[u64], features: Features, map: &mut [u16])
+    requires { ⌜ (now map ≡ identity) × (length (now code) ≤ codeLimit) × (buildSplit (now code) (features .0) .answer ≡ Answer.Done) ⌝ }
+    ensures { λ _. ⌜ now (map .exit) ≡ mapOf (now (code .entry)) (now (masks .entry)) (features .0) ⌝ }
+{
+    let mut place: usize = 0;
+    while place < code.len() {
+        let decoded = decode::decode(&code[place..], features);
+        let Decoded::Accepted(x) = decoded else {
+            return;
+        };
+        step_map(x, masks, map);
+        place += x.length;
+    }
+}
+
+// The map of a list, once the sizes are right. Nothing is written unless every step is accepted.
+fn build_list(code: &[u8], masks: &[u64], features: Features, map: &mut [u16]) -> Built
+    requires { ⌜ (length (now map) ≡ mapEntries) × (length (now code) ≤ codeLimit) ⌝ }
+    ensures { λ r. ⌜ (r ≡ scannedOf (now (code .entry)) (features .0)) × (now (map .exit) ≡ mapOnAnswer (buildSplit (now (code .entry)) (features .0) .answer) (mapOf (now (code .entry)) (now (masks .entry)) (features .0)) (now (map .entry))) ⌝ }
+{
+    let built = scan(code, features);
+    let answer = built.answer;
+    if let Answer::Done = answer {
+        fill_identity(map);
+        write_steps(code, masks, features, map);
+        return built;
+    }
+    built
+}
+
+fn refused_build(why: Refusal) -> Built
+    ensures { λ r. ⌜ r ≡ refusedBuild why ⌝ }
+{
+    Built {
+        place: 0,
+        answer: Answer::Refused(why),
+    }
+}
+
+// Builds the map of a list, or says which step has none and changes no entry.
+pub fn build(code: &[u8], masks: &[u64], features: Features, map: &mut [u16]) -> Built
+    ensures { λ r. ⌜ (r ≡ buildOf (now (code .entry)) (length (now (masks .entry))) (features .0) (length (now (map .entry)))) × (now (map .exit) ≡ mapBuilt (now (code .entry)) (now (masks .entry)) (features .0) (now (map .entry))) ⌝ }
+{
+    if masks.len() != Mask::COUNT as usize {
+        return refused_build(Refusal::Argument);
+    }
+    if map.len() != ByteMap::ENTRIES {
+        return refused_build(Refusal::Argument);
+    }
+    if features.known() {
+        if Code::LIMIT < code.len() {
+            return refused_build(Refusal::TooLong);
+        }
+        return build_list(code, masks, features, map);
+    }
+    refused_build(Refusal::Argument)
 }

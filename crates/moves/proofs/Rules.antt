@@ -7,6 +7,10 @@ use native.Mathlib.Omega.{arith}
 use native.Mathlib.Nat.{mod-eq-of-lt}
 use lib.ListN.{length, getD, List·getD-eq-default}
 use borrow.Author.Tests.{eq-eqb, ne-eqb, le-leb, lt-leb}
+use Rattle.isa.specs.Kinds.{regOf}
+use Rattle.isa.specs.declared.kinds.Reg.{Reg}
+use Rattle.decode.specs.declared.instruction.First as FirstSource
+use Rattle.moves.specs.Moved.{firstRegister}
 use Rattle.isa.specs.Operands.{widthBytes, elementBytes}
 use Rattle.isa.specs.declared.kinds.Mask.{Mask}
 use Rattle.isa.specs.declared.operands.Width.{Width}
@@ -104,3 +108,6 @@ module _ (x : Instruction) (bits c i v n : ℕ) (pv : v ≡ widthBytes (x .width
   pub kept : i < v → (t : Bool) → t ≡ written bits (i / n) → t ≡ false → x .zeroing ≡ false → Kept ≡ originOf x bits c i
   unfolding originOf
   kept h t p q z = rw (← pv, lt-leb v i h, ← pn, sym p ∙ q, z)
+
+pub first-absent : (f : FirstSource.First) (r : Reg) → f ≡ FirstSource.First.Absent → r ≡ regOf 0 0 → r ≡ firstRegister f
+first-absent f r p q = q ∙ rw p

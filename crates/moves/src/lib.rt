@@ -4,10 +4,13 @@ ghost use Prim.Native.Nat.{_*_, _/_, _%_, _<_, _≤_};
 ghost use Rattle.moves.specs.declared.Move.{Move};
 ghost use Rattle.isa.specs.Operands.{widthBytes, elementBytes};
 ghost use Rattle.moves.specs.Pick.{moveOf, immediateByte, picks, digit, placeIn, inLane, unpackLow, laneBy, laneOf, pickOf};
+ghost use Rattle.moves.specs.Moved.{firstRegister};
 ghost use Rattle.moves.specs.Origin.{bitsOf, written, originOf};
+use decode::instruction::First;
 use decode::instruction::Immediate;
 use decode::instruction::Instruction;
 use isa::kinds::Mask;
+use isa::kinds::Reg;
 use isa::operands::Element;
 use isa::operands::Mnemonic;
 use isa::operands::Width;
@@ -218,4 +221,14 @@ pub fn origin_of(x: Instruction, bits: u64, c: u8, i: u8) -> Origin
         return Origin::Zero;
     }
     Origin::Kept
+}
+
+// The first source; a form that has none moves nothing from it.
+pub fn first_register(first: First) -> Reg
+    ensures { λ r. ⌜ r ≡ firstRegister first ⌝ }
+{
+    match first {
+        First::Register(register) => register,
+        First::Absent => Reg::of(0, 0),
+    }
 }

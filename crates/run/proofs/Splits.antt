@@ -31,16 +31,16 @@ empty-is [] e = refl
 empty-is (a ∷ l) e = absurd (omega arith)
 
 module _ (wanted : Instruction → Bool) (why : Refusal) (features : ℕ) where
-  abbrev cut : ℕ → List ℕ → Split
+  abbrev pub cut : ℕ → List ℕ → Split
   cut fuel code = split wanted why features fuel code
 
   -- a split's first step: none is left, it is refused, or it is x
-  data First (code : List ℕ) : Type 0 where
+  pub data First (code : List ℕ) : Type 0 where
     nothing : length code ≡ 0 → First code
     refused : (r : Refusal) → ((k : ℕ) → cut (suc k) code ≡ stopped (Answer.Refused r)) → First code
     goes : (x : Instruction) → decodeOf code features ≡ Decoded.Accepted x → wanted x ≡ true → ((k : ℕ) → cut (suc k) code ≡ followed x (cut k (drop (x .length) code))) → First code
 
-  first : (code : List ℕ) → First code
+  pub first : (code : List ℕ) → First code
   first code = by (eqb (length code) 0) refl (decodeOf code features) refl
     where
       chosen : (x : Instruction) → eqb (length code) 0 ≡ false → decodeOf code features ≡ Decoded.Accepted x → (t : Bool) → wanted x ≡ t → First code
@@ -52,7 +52,7 @@ module _ (wanted : Instruction → Bool) (why : Refusal) (features : ℕ) where
       by false p (Decoded.Refused r) q = refused r (λ k. unfold split in rw (p, q))
       by false p (Decoded.Accepted x) q = chosen x p q (wanted x) refl
 
-  empty-cut : (k : ℕ) (code : List ℕ) → length code ≡ 0 → cut k code ≡ stopped Answer.Done
+  pub empty-cut : (k : ℕ) (code : List ℕ) → length code ≡ 0 → cut k code ≡ stopped Answer.Done
   unfolding split
   empty-cut zero code e = refl
   empty-cut (suc k) code e = rw (eq-eqb (length code) 0 e)
@@ -62,7 +62,7 @@ module _ (wanted : Instruction → Bool) (why : Refusal) (features : ℕ) where
   unfolding split
   next-cut k code x p q w = rw (p, q, w)
 
-  zero-cut : (code : List ℕ) → cut 0 code ≡ stopped Answer.Done
+  pub zero-cut : (code : List ℕ) → cut 0 code ≡ stopped Answer.Done
   unfolding split
   zero-cut code = refl
 
@@ -104,7 +104,7 @@ module _ (wanted : Instruction → Bool) (why : Refusal) (features : ℕ) where
       by (goes x d w f) ih = f (k + j) ∙ ap (followed x) (ih (drop (x .length) code) (shorter code x k d h)) ∙ sym (f k)
 
   -- a split that stopped by itself: at the end of the list, or at a refusal
-  abbrev Settled : List ℕ → Split → Type 0
+  abbrev pub Settled : List ℕ → Split → Type 0
   Settled code s = (s .answer ≡ Answer.Done) → s .place ≡ length code
 
   pub settled : (k : ℕ) (code : List ℕ) → length code ≤ 4 * k → Settled code (cut k code)

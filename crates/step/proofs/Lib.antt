@@ -1,6 +1,6 @@
 -- Lemmas that the proofs of the step hand to `search` or cite.
 mod FourLanes
 mod Elements
-mod Rules
+pub mod Rules
 pub mod Laws
 pub mod Examples

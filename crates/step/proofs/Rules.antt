@@ -7,7 +7,7 @@ use native.Mathlib.Nat.{mod-eq-of-lt}
 use lib.ListN.{length, getD, take, drop, List·getD-eq-default}
 use borrow.Author.Tests.{eq-eqb, ne-eqb}
 use Rattle.seq.specs.Tabulate.{tabulate}
-use Rattle.isa.specs.Kinds.{registers, fileSize, maskCount, regOf, offsetOf}
+use Rattle.isa.specs.Kinds.{registers, fileSize, maskCount, offsetOf}
 use Rattle.isa.specs.Operands.{elementBytes}
 use Rattle.isa.specs.declared.kinds.Reg.{Reg}
 use Rattle.isa.specs.declared.kinds.Offset.{Offset}
@@ -15,7 +15,6 @@ use Rattle.isa.specs.declared.refusal.Refusal.{Refusal}
 use Rattle.isa.specs.declared.refusal.Refusal.the-variants.{Argument, MemoryLength}
 use Rattle.decode.specs.Instruction.{wantedOf}
 use Rattle.decode.specs.Decode.{decodeOf}
-use Rattle.decode.specs.declared.instruction.First.{First}
 use Rattle.decode.specs.declared.instruction.Third.{Third}
 use Rattle.decode.specs.declared.instruction.Instruction.{Instruction}
 use Rattle.decode.specs.declared.instruction.Decoded.{Decoded}
@@ -37,11 +36,8 @@ offset-is r i n o p q = q ∙ ap (λ (y : Offset). y .0) p
 pub starts : (r : Reg) (n : ℕ) (o : Offset) → o ≡ offsetOf r 0 → n ≡ o .0 → n ≡ 64 * (r .0 % registers)
 starts r n o p q = omega (arith, offset-is r 0 n o p q)
 
-pub register-read : (file : List ℕ) (r : Reg) (i n b : ℕ) (o : Offset) → o ≡ offsetOf r i → n ≡ o .0 → b ≡ getD file n 0 → b ≡ registerAt 0 file r i
-register-read file r i n b o p q e = e ∙ ap (λ (k : ℕ). getD file k 0) (offset-is r i n o p q)
-
-pub first-absent : (f : First) (r : Reg) → f ≡ First.Absent → r ≡ regOf 0 0 → r ≡ firstRegister f
-first-absent f r p q = q ∙ rw p
+pub register-read : (z : ℕ) (file : List ℕ) (r : Reg) (i n b : ℕ) (o : Offset) → o ≡ offsetOf r i → n ≡ o .0 → b ≡ getD file n z → b ≡ registerAt z file r i
+register-read z file r i n b o p q e = e ∙ ap (λ (k : ℕ). getD file k z) (offset-is r i n o p q)
 
 -- a register's part ends within the file
 pub part-fits : (file : List ℕ) (r : Reg) (n : ℕ) (o : Offset) → o ≡ offsetOf r 0 → n ≡ o .0 → length file ≡ fileSize → n + 64 ≤ length file

@@ -6,10 +6,9 @@ ghost use lib.ListN.{length, getD};
 ghost use Rattle.seq.specs.Tabulate.{tabulate};
 ghost use Rattle.isa.specs.Kinds.{registers, fileSize};
 ghost use Rattle.decode.specs.Decode.{decodeOf};
-ghost use Rattle.moves.specs.Moved.{registerAt, firstRegister, thirdPart, repeated, placed};
+ghost use Rattle.moves.specs.Moved.{registerAt, thirdPart, repeated, placed};
 ghost use Rattle.step.specs.Step.{lanesOf, laneByte, controlByte, byteOf, originAt, elementOrigin, byteFrom, refusedOf, executedOf, executedFile, stepOf, fileAfter};
 use decode::instruction::Decoded;
-use decode::instruction::First;
 use decode::instruction::Instruction;
 use decode::instruction::Third;
 use isa::features::Features;
@@ -33,15 +32,6 @@ fn register_byte(file: &[u8], register: Reg, i: u32) -> u8
 {
     let at = Offset::of(register, i);
     byte_at(file, at.number() as usize)
-}
-
-fn first_register(first: First) -> Reg
-    ensures { λ r. ⌜ r ≡ firstRegister first ⌝ }
-{
-    match first {
-        First::Register(register) => register,
-        First::Absent => Reg::of(0, 0),
-    }
 }
 
 // The third operand, where it lies.
@@ -86,7 +76,7 @@ fn control(x: Instruction, part: &[u8], file: &[u8], i: u8) -> u8
     let start = (i - i % element.bytes()) as u32;
     match kind {
         Move::LaneByThird => repeated_byte(part, start),
-        Move::AnyByFirst => register_byte(file, first_register(first), start),
+        Move::AnyByFirst => register_byte(file, moves::first_register(first), start),
         Move::LaneByImmediate => moves::immediate_byte(immediate),
         Move::UnpackLow => moves::immediate_byte(immediate),
         Move::LaneOrZero => moves::immediate_byte(immediate),
@@ -129,7 +119,7 @@ fn byte(x: Instruction, part: &[u8], file: &[u8], from: Origin, i: u8) -> u8
     let element = x.element;
     let k = (i % element.bytes()) as u32;
     match from {
-        Origin::First(j) => register_byte(file, first_register(first), j as u32 + k),
+        Origin::First(j) => register_byte(file, moves::first_register(first), j as u32 + k),
         Origin::Third(j) => repeated_byte(part, j as u32 + k),
         Origin::Zero => 0,
         Origin::Kept => register_byte(file, destination, i as u32),

@@ -1,7 +1,7 @@
 use borrow.Author.Needs.{needs}
-use Rattle.step.proofs.Rules.{first-absent}
-use Rattle.step.proofs.first_register.Statement.{statement}
-use Rattle.step.proofs.first_register.Tie as tie
+use Rattle.moves.proofs.Rules.{first-absent}
+use Rattle.moves.proofs.first_register.Statement.{statement}
+use Rattle.moves.proofs.first_register.Tie as tie
 
 pub first-register-spec : {M : Type 1} → statement M
 first-register-spec =

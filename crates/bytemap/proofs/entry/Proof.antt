@@ -1,0 +1,25 @@
+use borrow.Author.Needs.{needs}
+use Rattle.bytemap.proofs.Rules.{entry-first, entry-third, entry-zero, entry-kept}
+use Rattle.bytemap.proofs.entry.Statement.{statement}
+use Rattle.bytemap.proofs.entry.Tie as tie
+
+pub entry-spec : {M : Type 1} → statement M
+entry-spec =
+    tie.close
+    (tie.spec
+    (λ c κs. search needs)
+    (λ c κs. search needs)
+    (λ c. search needs)
+    (λ c κs. search needs)
+    (λ c. search needs)
+    (λ c κs. search needs)
+    (λ c. search needs)
+    (λ c. search needs)
+    (λ c κs. search needs)
+    (λ c. search needs)
+    (λ c. search needs)
+    (λ c κs. search needs)
+    (λ c. search (needs, entry-first, entry-third, entry-zero, entry-kept) depth 12)
+    (λ c. search (needs, entry-first, entry-third, entry-zero, entry-kept) depth 12)
+    (λ c. search (needs, entry-first, entry-third, entry-zero, entry-kept) depth 12)
+    (λ c. search (needs, entry-first, entry-third, entry-zero, entry-kept) depth 12))
