@@ -29,9 +29,15 @@ extern "C" {
 #define TARHUSPO_AVX512VL UINT32_C(8)
 #define TARHUSPO_AVX512_VBMI UINT32_C(16)
 
-/* Sizes: bytes of the register file, and the number of opmasks. */
+/* Sizes: bytes of the register file, the number of opmasks, and entries of a byte map. */
 #define TARHUSPO_FILE_SIZE 2048
 #define TARHUSPO_MASK_COUNT 8
+#define TARHUSPO_MAP_SIZE 2048
+/* The entry of a byte map that stands for a zero byte. */
+#define TARHUSPO_MAP_ZERO 2048
+/* Most bytes of a list of instructions, and a number of instructions that no list exceeds. */
+#define TARHUSPO_CODE_LIMIT 4096
+#define TARHUSPO_MOST_STEPS 1024
 
 /*
  * A decoded instruction.
@@ -108,6 +114,95 @@ typedef struct {
 tarhuspo_stepped tarhuspo_step(const uint8_t *code, size_t code_len, uint8_t *file, size_t file_len,
                                const uint64_t *masks, size_t masks_len, uint32_t features,
                                const uint8_t *memory, size_t memory_len);
+
+/*
+ * The result of a run.
+ *
+ * status is 0 if the end of the code was reached or the budget was spent. Otherwise it is the first
+ * of these that applies:
+ *
+ *  1  file_len is not 2048, masks_len is not 8, or features is over 31.
+ *  8  code_len is over 4096.
+ *  2 to 6  The instruction at place is refused: as tarhuspo_step without memory, so that every
+ *     memory form that is not refused with 2 to 5 is refused with 6.
+ *
+ * 1 and 8 are given whatever the budget is, also if it is 0.
+ */
+typedef struct {
+    uint64_t steps;  /* instructions carried out, 0 for 1 and 8 */
+    uint64_t place;  /* where the next or the refused instruction starts, 0 for 1 and 8 */
+    uint32_t status; /* 0, or 1 to 6 or 8 as above */
+} tarhuspo_ran;
+
+/*
+ * Carries out the instructions of code, one behind the other, at most budget of them. The one after
+ * a spent budget is not looked at. A budget of 1024 always reaches the end or a refusal, because an
+ * instruction has at least 4 bytes.
+ *
+ * The register file is left as steps calls of tarhuspo_step leave it, also if a later instruction
+ * is refused. For 1 and 8 nothing is changed. code and masks are never written to.
+ */
+tarhuspo_ran tarhuspo_run(const uint8_t *code, size_t code_len, uint8_t *file, size_t file_len,
+                          const uint64_t *masks, size_t masks_len, uint32_t features,
+                          uint64_t budget);
+
+/*
+ * The result of building a byte map.
+ *
+ * status is 0 if the map was written. Otherwise it is the first of these that applies:
+ *
+ *  1  map_len is not 2048, masks_len is not 8, or features is over 31.
+ *  8  code_len is over 4096.
+ *  2 to 5, 7  The instruction at place is refused: 2 to 5 as tarhuspo_decode, then 7 if it has a
+ *     memory operand or takes its control from a register (VPERMB, and VPERMILPD without an
+ *     immediate).
+ */
+typedef struct {
+    uint64_t place;  /* code_len if status is 0, else where the refused instruction starts, or 0
+                        for 1 and 8 */
+    uint32_t status; /* 0, or 1 to 5, 7 or 8 as above */
+} tarhuspo_built;
+
+/*
+ * Writes the byte map of a list of instructions: entry i tells where byte i of the register file
+ * comes from when the whole list is run. Below 2048 it is a place in the file before the run, and
+ * 2048 stands for a zero byte.
+ *
+ * If status is 0, all 2048 entries are written, and what they held before does not count.
+ * Otherwise nothing is changed. code and masks are never written to.
+ */
+tarhuspo_built tarhuspo_bytemap_build(const uint8_t *code, size_t code_len, const uint64_t *masks,
+                                      size_t masks_len, uint32_t features, uint16_t *map,
+                                      size_t map_len);
+
+/*
+ * Replaces byte i of the register file by the byte that was at the place that entry i names, or by
+ * 0 for an entry of 2048. Any map may be applied, built or not.
+ *
+ * Gives 0, or the first of these that applies, and then nothing is changed:
+ *
+ *  1  map_len or file_len is not 2048.
+ *  9  An entry of map is over 2048.
+ *
+ * map is never written to.
+ */
+uint32_t tarhuspo_bytemap_apply(const uint16_t *map, size_t map_len, uint8_t *file,
+                                size_t file_len);
+
+/*
+ * Writes the map that does what first and then second do: an entry of 2048 in second stays, and an
+ * entry e below becomes entry e of first. Any maps may be composed, built or not.
+ *
+ * Gives 0, or the first of these that applies, and then nothing is changed:
+ *
+ *  1  first_len, second_len or out_len is not 2048.
+ *  9  An entry of first or of second is over 2048, whether or not the other map names it. What out
+ *     held before does not count.
+ *
+ * first and second are never written to.
+ */
+uint32_t tarhuspo_bytemap_compose(const uint16_t *first, size_t first_len, const uint16_t *second,
+                                  size_t second_len, uint16_t *out, size_t out_len);
 
 #ifdef __cplusplus
 }

@@ -1,2 +1,3 @@
 -- The rules that the proofs hand to `search`.
 mod Compose
+mod Lists

@@ -3,7 +3,11 @@ ghost use mathlib.Core.Path.{_≡_};
 ghost use Rattle.decode.specs.Decode.{decodeOf};
 ghost use lib.ListN.{length};
 ghost use Rattle.step.specs.Step.{stepOf, fileAfter};
+ghost use Rattle.run.specs.Run.{runOf, fileAfterRun};
+ghost use Rattle.bytemap.specs.Build.{buildOf, mapBuilt};
+ghost use Rattle.bytemap.specs.ByteMap.{applyOf, fileApplied, composeOf, mapComposed};
 ghost use Rattle.tarhuspo.specs.Stepped.{steppedOf};
+ghost use Rattle.tarhuspo.specs.Lists.{answerStatus, ranOf, builtOf};
 ghost use Rattle.tarhuspo.specs.Decoded.{encodingNumber, firstNumber, thirdNumber, hasImmediate, immediateNumber, flag, acceptedOf, refusedOf, decodedOf};
 use decode::instruction::Decoded;
 use decode::instruction::First;
@@ -13,6 +17,7 @@ use decode::instruction::Third;
 use isa::features::Features;
 use isa::operands::Encoding;
 use isa::refusal::Refusal;
+use run::Answer;
 use step::Stepped;
 
 // tarhuspo_decoded. All fields but status are 0 where status is not 0.
@@ -176,4 +181,78 @@ pub extern "C" fn tarhuspo_step(
             length: 0,
         },
     }
+}
+
+fn status_of(answer: Answer) -> u32
+    ensures { λ r. ⌜ r ≡ answerStatus answer ⌝ }
+{
+    match answer {
+        Answer::Done => 0,
+        Answer::Refused(why) => why.status(),
+    }
+}
+
+// tarhuspo_ran
+#[repr(C)]
+pub struct TarhuspoRan {
+    pub steps: u64,
+    pub place: u64,
+    pub status: u32,
+}
+
+#[no_mangle]
+pub extern "C" fn tarhuspo_run(
+    code: &[u8],
+    file: &mut [u8],
+    masks: &[u64],
+    features: u32,
+    budget: u64,
+) -> TarhuspoRan
+    ensures { λ r. ⌜ (r ≡ ranOf (runOf (now (code .entry)) (length (now (file .entry))) (length (now (masks .entry))) features budget)) × (now (file .exit) ≡ fileAfterRun (now (code .entry)) (now (masks .entry)) features budget (now (file .entry))) ⌝ }
+{
+    let ran = run::run(code, file, masks, Features(features), budget);
+    let answer = ran.answer;
+    TarhuspoRan {
+        steps: ran.steps,
+        place: ran.place as u64,
+        status: status_of(answer),
+    }
+}
+
+// tarhuspo_built
+#[repr(C)]
+pub struct TarhuspoBuilt {
+    pub place: u64,
+    pub status: u32,
+}
+
+#[no_mangle]
+pub extern "C" fn tarhuspo_bytemap_build(
+    code: &[u8],
+    masks: &[u64],
+    features: u32,
+    map: &mut [u16],
+) -> TarhuspoBuilt
+    ensures { λ r. ⌜ (r ≡ builtOf (buildOf (now (code .entry)) (length (now (masks .entry))) features (length (now (map .entry))))) × (now (map .exit) ≡ mapBuilt (now (code .entry)) (now (masks .entry)) features (now (map .entry))) ⌝ }
+{
+    let built = bytemap::build(code, masks, Features(features), map);
+    let answer = built.answer;
+    TarhuspoBuilt {
+        place: built.place as u64,
+        status: status_of(answer),
+    }
+}
+
+#[no_mangle]
+pub extern "C" fn tarhuspo_bytemap_apply(map: &[u16], file: &mut [u8]) -> u32
+    ensures { λ r. ⌜ (r ≡ answerStatus (applyOf (now (map .entry)) (length (now (file .entry))))) × (now (file .exit) ≡ fileApplied (now (map .entry)) (now (file .entry))) ⌝ }
+{
+    status_of(bytemap::apply(map, file))
+}
+
+#[no_mangle]
+pub extern "C" fn tarhuspo_bytemap_compose(first: &[u16], second: &[u16], out: &mut [u16]) -> u32
+    ensures { λ r. ⌜ (r ≡ answerStatus (composeOf (now (first .entry)) (now (second .entry)) (length (now (out .entry))))) × (now (out .exit) ≡ mapComposed (now (first .entry)) (now (second .entry)) (now (out .entry))) ⌝ }
+{
+    status_of(bytemap::compose(first, second, out))
 }

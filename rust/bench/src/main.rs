@@ -4,6 +4,7 @@
 
 mod decoding;
 mod inputs;
+mod lists;
 mod stepping;
 mod timing;
 
@@ -12,7 +13,7 @@ use std::process::ExitCode;
 
 fn main() -> ExitCode {
     println!("processor: {}", processor_name());
-    for print_table in [decoding::print, stepping::print] {
+    for print_table in [decoding::print, stepping::print, lists::print] {
         println!();
         if let Err(place) = print_table() {
             println!("results differ: {place}");

@@ -25,3 +25,15 @@ pub fn masks(masks: &[u64]) -> String {
     }
     text
 }
+
+/// Entries of a byte map in hexadecimal, 64 to a line. Lines are numbered by register.
+pub fn entries(name: &str, entries: &[u16]) -> String {
+    let mut text = format!("{name}, {} entries:", entries.len());
+    for (number, line) in entries.chunks(64).enumerate() {
+        let _ = write!(text, "\n{number:>4}:");
+        for entry in line {
+            let _ = write!(text, " {entry:04X}");
+        }
+    }
+    text
+}

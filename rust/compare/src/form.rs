@@ -2,6 +2,7 @@
 
 use crate::encoding::{Prefix, Shape};
 use crate::random::Random;
+use tarhuspo::features;
 
 /// A shape with its width, masking and broadcast.
 #[derive(Debug, Clone, Copy)]
@@ -67,6 +68,31 @@ impl Form {
             (true, true) if self.shape.row.evex_w == Some(1) => 8,
             (true, true) => 4,
         }
+    }
+
+    /// The features that this form needs.
+    pub fn features(self) -> u32 {
+        let is_vpermb = self.shape.row.name == "VPERMB";
+        let is_vpshufd = self.shape.row.name == "VPSHUFD";
+        match (self.shape.prefix, self.width) {
+            (Prefix::Evex, 2) if is_vpermb => features::AVX512_VBMI,
+            (Prefix::Evex, 2) => features::AVX512F,
+            (Prefix::Evex, _) if is_vpermb => features::AVX512_VBMI | features::AVX512VL,
+            (Prefix::Evex, _) => features::AVX512F | features::AVX512VL,
+            (_, 1) if is_vpshufd => features::AVX2,
+            _ => features::AVX,
+        }
+    }
+
+    /// Whether `features` have all that this form needs.
+    pub fn is_enabled(self, features: u32) -> bool {
+        self.features() & !features == 0
+    }
+
+    /// Whether a register or memory holds what is to be moved where.
+    pub fn has_register_control(self) -> bool {
+        let row = self.shape.row;
+        row.name == "VPERMB" || (row.name == "VPERMILPD" && !row.immediate)
     }
 
     pub fn combination(self) -> Combination {

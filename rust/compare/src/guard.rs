@@ -16,6 +16,10 @@ impl Element for u8 {
     const FILL: u8 = 0xA5;
 }
 
+impl Element for u16 {
+    const FILL: u16 = 0xA5A5;
+}
+
 impl Element for u64 {
     const FILL: u64 = 0xA5A5_A5A5_A5A5_A5A5;
 }

@@ -64,7 +64,14 @@ fn c_program_runs_against_the_archive() {
                     empty: 2 0 0 0 0 0 0 0 0 0 0 0 0 0\n\
                     features: 1 0 0 0 0 0 0 0 0 0 0 0 0 0\n\
                     step: 0 7, bytes 0 5 8 0 0\n\
-                    refused step: 6 0, bytes 5 8\n";
+                    refused step: 6 0, bytes 5 8\n\
+                    run: 2 9 3, bytes 199 134 0\n\
+                    no budget: 0 0 0\n\
+                    build: 9 0, entries 196 132 2048\n\
+                    refused build: 9 3, entry 0\n\
+                    apply: 0, bytes 199 0\n\
+                    compose: 0, entries 132 0\n\
+                    refused apply: 9\n";
     assert_eq!(printed, expected);
 }
 

@@ -3,7 +3,7 @@
 //! Every pointer must be non-null, aligned and valid for its length, also where that is 0, and a
 //! buffer that is written to must not overlap another.
 
-use crate::{Decoded, Stepped};
+use crate::{Built, Decoded, Ran, Stepped};
 
 extern "C" {
     pub fn tarhuspo_decode(code: *const u8, code_len: usize, features: u32) -> Decoded;
@@ -19,4 +19,41 @@ extern "C" {
         memory: *const u8,
         memory_len: usize,
     ) -> Stepped;
+
+    pub fn tarhuspo_run(
+        code: *const u8,
+        code_len: usize,
+        file: *mut u8,
+        file_len: usize,
+        masks: *const u64,
+        masks_len: usize,
+        features: u32,
+        budget: u64,
+    ) -> Ran;
+
+    pub fn tarhuspo_bytemap_build(
+        code: *const u8,
+        code_len: usize,
+        masks: *const u64,
+        masks_len: usize,
+        features: u32,
+        map: *mut u16,
+        map_len: usize,
+    ) -> Built;
+
+    pub fn tarhuspo_bytemap_apply(
+        map: *const u16,
+        map_len: usize,
+        file: *mut u8,
+        file_len: usize,
+    ) -> u32;
+
+    pub fn tarhuspo_bytemap_compose(
+        first: *const u16,
+        first_len: usize,
+        second: *const u16,
+        second_len: usize,
+        out: *mut u16,
+        out_len: usize,
+    ) -> u32;
 }

@@ -12,15 +12,19 @@
 //! assert_eq!(decoded.length, 5);
 //! ```
 
+mod bytemap;
 mod decode;
 pub mod features;
 mod ffi;
 pub mod limits;
 mod mnemonic;
+mod run;
 mod status;
 mod step;
 
+pub use bytemap::{bytemap_apply, bytemap_build, bytemap_compose, Built};
 pub use decode::{decode, Decoded};
 pub use mnemonic::mnemonic_name;
+pub use run::{run, Ran};
 pub use status::describe;
 pub use step::{step, Stepped};

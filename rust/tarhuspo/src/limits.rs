@@ -1,6 +1,15 @@
-//! Sizes that the library asks for. A buffer of another size is refused with status 1.
+//! Sizes and limits of the library. A buffer of another size is refused with status 1, a list of
+//! instructions above its limit with status 8.
 
 /// Bytes of the register file: 32 registers of 64 bytes.
 pub const FILE_SIZE: usize = 2_048;
 /// Number of opmask registers.
 pub const MASK_COUNT: usize = 8;
+/// Most bytes of a list of instructions.
+pub const CODE_LIMIT: usize = 4_096;
+/// A number of instructions that no list within [`CODE_LIMIT`] exceeds: each has at least 4 bytes.
+pub const MOST_STEPS: u64 = 1_024;
+/// Entries of a byte map, one for each byte of the register file.
+pub const MAP_SIZE: usize = FILE_SIZE;
+/// The entry of a byte map that stands for a zero byte.
+pub const MAP_ZERO: u16 = 2_048;

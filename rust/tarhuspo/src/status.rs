@@ -2,8 +2,8 @@
 
 /// One sentence on what a status number means.
 ///
-/// Decoding gives 0 to 5, and a step 0 to 6. The numbers 7 to 9 belong to lists of instructions and
-/// to byte maps.
+/// Decoding gives 0 to 5, a step 0 to 6, and a run also 8. Building a byte map gives 0 to 5, 7 or 8,
+/// applying and composing give 0, 1 or 9.
 ///
 /// ```
 /// use tarhuspo::{decode, describe, features};

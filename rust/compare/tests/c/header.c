@@ -1,6 +1,7 @@
 /* Built and run by tests/c_header.rs: the header fits the archive. */
 #include "tarhuspo.h"
 
+#include <inttypes.h>
 #include <stddef.h>
 #include <stdio.h>
 
@@ -27,6 +28,15 @@ FIELD(tarhuspo_decoded, immediate, 52);
 SIZE(tarhuspo_stepped, 8);
 FIELD(tarhuspo_stepped, status, 0);
 FIELD(tarhuspo_stepped, length, 4);
+
+SIZE(tarhuspo_ran, 24);
+FIELD(tarhuspo_ran, steps, 0);
+FIELD(tarhuspo_ran, place, 8);
+FIELD(tarhuspo_ran, status, 16);
+
+SIZE(tarhuspo_built, 16);
+FIELD(tarhuspo_built, place, 0);
+FIELD(tarhuspo_built, status, 8);
 
 static void print(const char *name, tarhuspo_decoded d)
 {
@@ -68,9 +78,54 @@ static void step(void)
     printf("refused step: %u %u, bytes %u %u\n", s.status, s.length, file[68], file[71]);
 }
 
+/* vunpcklps xmm1, xmm2, xmm3; vpshufd xmm1, xmm1, 0x1b; a byte that starts nothing */
+static const uint8_t list[] = {0xC5, 0xE8, 0x14, 0xCB, 0xC5, 0xF9, 0x70, 0xC9, 0x1B, 0x90};
+
+static void run(void)
+{
+    tarhuspo_ran r;
+    size_t i;
+
+    for (i = 0; i < sizeof file; i++)
+        file[i] = (uint8_t)(i + i / 64);
+    r = tarhuspo_run(list, sizeof list, file, sizeof file, masks, TARHUSPO_MASK_COUNT, 31,
+                     TARHUSPO_MOST_STEPS);
+    printf("run: %" PRIu64 " %" PRIu64 " %u, ", r.steps, r.place, r.status);
+    printf("bytes %u %u %u\n", file[64], file[68], file[80]);
+    r = tarhuspo_run(list, sizeof list, file, sizeof file, masks, TARHUSPO_MASK_COUNT, 31,
+                     UINT64_C(0));
+    printf("no budget: %" PRIu64 " %" PRIu64 " %u\n", r.steps, r.place, r.status);
+}
+
+static uint16_t map[TARHUSPO_MAP_SIZE], second[TARHUSPO_MAP_SIZE], both[TARHUSPO_MAP_SIZE];
+
+static void bytemap(void)
+{
+    tarhuspo_built b = tarhuspo_bytemap_build(list, sizeof list - 1, masks, TARHUSPO_MASK_COUNT, 31,
+                                              map, TARHUSPO_MAP_SIZE);
+    uint32_t status;
+
+    printf("build: %" PRIu64 " %u, ", b.place, b.status);
+    printf("entries %u %u %u\n", map[64], map[68], map[80]);
+    b = tarhuspo_bytemap_build(list, sizeof list, masks, TARHUSPO_MASK_COUNT, 31, second,
+                               TARHUSPO_MAP_SIZE);
+    printf("refused build: %" PRIu64 " %u, entry %u\n", b.place, b.status, second[64]);
+    status = tarhuspo_bytemap_apply(map, TARHUSPO_MAP_SIZE, file, sizeof file);
+    printf("apply: %u, bytes %u %u\n", status, file[64], file[80]);
+    second[0] = 68;
+    status = tarhuspo_bytemap_compose(map, TARHUSPO_MAP_SIZE, second, TARHUSPO_MAP_SIZE, both,
+                                      TARHUSPO_MAP_SIZE);
+    printf("compose: %u, entries %u %u\n", status, both[0], both[1]);
+    both[0] = TARHUSPO_MAP_ZERO + 1;
+    status = tarhuspo_bytemap_apply(both, TARHUSPO_MAP_SIZE, file, sizeof file);
+    printf("refused apply: %u\n", status);
+}
+
 int main(void)
 {
     decode();
     step();
+    run();
+    bytemap();
     return 0;
 }
