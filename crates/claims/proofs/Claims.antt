@@ -11,13 +11,14 @@ use lib.ListN.{length}
 use Rattle.isa.specs.Kinds.{fileSize, mapEntries, codeLimit}
 use Rattle.run.specs.declared.Answer.{Answer}
 use Rattle.run.specs.Run.{runOf, fileAfterRun}
+use Rattle.run.proofs.Laws.{wholeBudget}
 use Rattle.bytemap.specs.ByteMap.{readByte, readEntry, applied, composed, applyOf, fileApplied, composeOf, mapComposed}
 use Rattle.bytemap.specs.Build.{identity, mapOf, buildSplit, buildOf, mapBuilt}
 use Rattle.bytemap.specs.Accepted.{Accepted}
 use Rattle.bytemap.proofs.Laws.{low-fine, lone, length-lone, lone-bytes, not-apart, apply-identity}
 use Rattle.bytemap.proofs.Laws.{compose-left, compose-right}
 use Rattle.bytemap.proofs.Acceptance.{facts, accepts, writes}
-use Rattle.claims.proofs.Words.{File, Map, Let, wholeBudget}
+use Rattle.claims.proofs.Words.{File, Map, Let}
 use Rattle.claims.proofs.Whole.{fine-low, applies, composes, composed-passes, associates, applies-in-turn, named, length-map-of, low-map-of, map-runs, run-file, run-answer, join-answer, join-map, empty-done, empty-map}
 
 -- Built maps pass answers 1 and 9.
@@ -42,7 +43,7 @@ applying-is-running code masks file features budget a e h =
 -- 1. And that run answers 0 at the list's length.
 pub the-run-reaches-the-end : (code masks file : List ℕ) (features budget : ℕ) → Accepted code masks features → length file ≡ fileSize → wholeBudget ≤ budget
     → (runOf code (length file) (length masks) features budget .answer ≡ Answer.Done) × (runOf code (length file) (length masks) features budget .place ≡ length code)
-the-run-reaches-the-end code masks file features budget a e h = run-answer masks features code (length file) budget (facts code masks features a) e h
+the-run-reaches-the-end code masks file features budget a e h = run-answer masks features code file budget (facts code masks features a) e h
 
 -- 2. Two accepted lists, joined, are accepted where the join is not too long.
 pub a-join-is-accepted : (a b masks : List ℕ) (features : ℕ) → Accepted a masks features → Accepted b masks features → length (a ++ b) ≤ codeLimit → Accepted (a ++ b) masks features

@@ -18,6 +18,7 @@ use Rattle.run.specs.declared.Ran.{Ran}
 use Rattle.run.specs.Split.{Split, split}
 use Rattle.run.specs.Run.{withoutMemory, runSplit, filesOf, steppedRun, steppedFile, runOf, fileAfterRun}
 use Rattle.run.proofs.Splits.{zero-cut}
+use Rattle.run.proofs.Laws.{wholeBudget, Passed, run-is, file-is}
 use Rattle.moves.specs.Mappable.{mappable}
 use Rattle.bytemap.specs.ByteMap.{fine, readByte, readEntry, applied, composed, applyOf, fileApplied, composeOf, mapComposed}
 use Rattle.bytemap.specs.Build.{buildSplit, identity, mapsOf, mapOf}
@@ -25,7 +26,7 @@ use Rattle.bytemap.specs.Accepted.{Accepted}
 use Rattle.bytemap.proofs.Laws.{Low, AllMapped, length-identity, reads-all, maps-to-file, maps-to-map, maps-join, length-maps, maps-low, identity-low, low-fine, zero-byte, zero-entry, apply-composed, compose-assoc, apply-agree}
 use Rattle.bytemap.proofs.Acceptance.{Facts, facts, accepts}
 use Rattle.bytemap.proofs.Lists.{any-fuel, runs-as-mapped, all-mapped, whole, join-split}
-use Rattle.claims.proofs.Words.{Map, wholeBudget}
+use Rattle.claims.proofs.Words.{Map}
 
 both-parts : (a b : Bool) → both a b ≡ true → (a ≡ true) × (b ≡ true)
 both-parts true b e = (refl, e)
@@ -117,18 +118,21 @@ module _ (masks : List ℕ) (features : ℕ) where
       maps-to-file (readByte file) (zero-byte file e) (buildSplit code features .instructions) (mapped code) masks identity
       ∙ ap (filesOf (buildSplit code features .instructions) masks) (reads-all (readByte file) file 0 e (λ p. refl))
 
+  passes : (code file : List ℕ) → Facts code masks features → length file ≡ fileSize → Passed code masks features file
+  passes code file f e = record { file-size = e; mask-count = f .masks-size; known = f .known; short = f .short }
+
   pub run-file : (code file : List ℕ) (budget : ℕ) → Facts code masks features → length file ≡ fileSize → wholeBudget ≤ budget
       → fileAfterRun code masks features budget file ≡ filesOf (buildSplit code features .instructions) masks file
-  unfolding fileAfterRun steppedFile
+  unfolding steppedFile
   run-file code file budget f e h =
-      rw (eq-eqb (length file) fileSize e, eq-eqb (length masks) maskCount (f .masks-size), f .known, le-leb (length code) codeLimit (f .short))
-      (ap (λ (s : Split). filesOf (s .instructions) masks file) (whole-split code budget h (f .short) (f .done)))
+      file-is code masks features file (passes code file f e) budget
+      ∙ ap (λ (s : Split). filesOf (s .instructions) masks file) (whole-split code budget h (f .short) (f .done))
 
-  pub run-answer : (code : List ℕ) (file : ℕ) (budget : ℕ) → Facts code masks features → file ≡ fileSize → wholeBudget ≤ budget
-      → (runOf code file (length masks) features budget .answer ≡ Answer.Done) × (runOf code file (length masks) features budget .place ≡ length code)
-  unfolding runOf steppedRun
+  pub run-answer : (code file : List ℕ) (budget : ℕ) → Facts code masks features → length file ≡ fileSize → wholeBudget ≤ budget
+      → (runOf code (length file) (length masks) features budget .answer ≡ Answer.Done) × (runOf code (length file) (length masks) features budget .place ≡ length code)
+  unfolding steppedRun
   run-answer code file budget f e h =
-      rw (eq-eqb file fileSize e, eq-eqb (length masks) maskCount (f .masks-size), f .known, le-leb (length code) codeLimit (f .short), whole-split code budget h (f .short) (f .done))
+      rw (run-is code masks features file (passes code file f e) budget, whole-split code budget h (f .short) (f .done))
       (f .done, whole features code (f .done))
 
   -- ---- two lists, one after the other

@@ -4,7 +4,7 @@ use mathlib.Core.Path.{_≡_}
 use mathlib.Core.Bool.{true}
 use mathlib.Core.List.{List}
 use lib.ListN.{length}
-use Rattle.isa.specs.Kinds.{fileSize, maskCount, mapEntries, codeLimit}
+use Rattle.isa.specs.Kinds.{fileSize, maskCount, mapEntries}
 use Rattle.isa.specs.Features.{featuresKnown}
 use Rattle.bytemap.specs.ByteMap.{fine, readByte}
 
@@ -19,7 +19,3 @@ Map m = (length m ≡ mapEntries) × (fine m ≡ true)
 -- masks and features that answer 1 lets pass
 abbrev pub Let : List ℕ → ℕ → Type 0
 Let masks features = (length masks ≡ maskCount) × (featuresKnown features ≡ true)
-
--- a budget that is enough for every list that answer 8 lets pass
-abbrev pub wholeBudget : ℕ
-wholeBudget = 1024
