@@ -1,6 +1,6 @@
 -- What stands behind an accepted list, and what makes one.
 use Prim.Native.Nat.{ℕ, _≤_}
-use mathlib.Core.Path.{_≡_, refl, sym, _∙_, ap}
+use mathlib.Core.Path.{_≡_, refl}
 use mathlib.Core.Bool.{Bool, true, false}
 use mathlib.Core.List.{List}
 use native.Mathlib.Omega.{arith}
@@ -13,9 +13,8 @@ use Rattle.isa.specs.Features.{featuresKnown}
 use Rattle.isa.specs.declared.refusal.Refusal.{Refusal}
 use Rattle.isa.specs.declared.refusal.Refusal.the-variants.{Argument, TooLong}
 use Rattle.run.specs.declared.Answer.{Answer}
-use Rattle.bytemap.specs.Build.{buildSplit, scannedOf, mapOf, refusedBuild, buildOf, mapOnAnswer, mapBuilt}
+use Rattle.bytemap.specs.Build.{buildSplit, scannedOf, mapOf, refusedBuild, buildOf, mapBuilt}
 use Rattle.bytemap.specs.Accepted.{Accepted}
-use Rattle.bytemap.specs.declared.Built.{Built}
 
 module _ (code masks : List ℕ) (features : ℕ) where
   pub record Facts : Type 0 where

@@ -1,20 +1,18 @@
 -- The laws of byte maps: entries move as bytes do, a list's map names places alone, and reading through maps.
-use Prim.Native.Nat.{ℕ, zero, suc, _+_, _-_, _*_, _/_, _%_, _<_, _≤_}
+use Prim.Native.Nat.{ℕ, suc, _+_, _-_, _/_, _%_, _<_, _≤_}
 use mathlib.Core.Path.{_≡_, refl, sym, _∙_, ap}
 use mathlib.Core.Bool.{Bool, true, false, cond}
 use mathlib.Core.List.{List, [], _∷_, _++_, map}
 use native.Mathlib.Omega.{arith}
 use native.Mathlib.Nat.{le-refl}
-use lib.Dec.{eqb, leb}
-use lib.ListN.{length, getD, take, drop, length-map, List·getD-map, List·getD-eq-default}
+use lib.Dec.{eqb}
+use lib.ListN.{length, getD, List·getD-map, List·getD-eq-default}
 use lib.Seq.{ext-getD}
-use borrow.Author.Tests.{eq-eqb, eqb-true, eqb-false, le-leb}
-use Rattle.seq.specs.Choice.{if_then_else_, both}
+use borrow.Author.Tests.{eq-eqb, eqb-true, le-leb}
 use Rattle.seq.specs.Tabulate.{tabulate}
 use Rattle.seq.proofs.Choice.{of-either}
 use Rattle.seq.proofs.Tabulate.{by-lt, length-tabulate, getD-tabulate, tabulate-getD, tabulate-ext, map-tabulate}
 use Rattle.isa.specs.Kinds.{registers, registerBytes, fileSize, mapEntries, zeroEntry, offsetOf}
-use Rattle.decode.specs.Instruction.{wantedOf}
 use Rattle.decode.specs.declared.instruction.Third.{Third}
 use Rattle.decode.specs.declared.instruction.Instruction.{Instruction}
 use Rattle.moves.specs.Origin.{bitsOf, originOf}
@@ -22,7 +20,6 @@ use Rattle.moves.specs.Moved.{held, registerAt, firstRegister, thirdPart, repea
 use Rattle.moves.specs.Mappable.{mappable}
 use Rattle.moves.proofs.Laws.{length-moved, moved-at, mappable-moves}
 use Rattle.moves.specs.declared.Origin.{Origin}
-use Rattle.step.specs.Step.{movedFile}
 use Rattle.run.specs.Run.{filesOf}
 use Rattle.bytemap.specs.ByteMap.{fine, readByte, readEntry, applied, composed}
 use Rattle.bytemap.specs.Build.{identity, entryIn, movedMap, mapsOf}

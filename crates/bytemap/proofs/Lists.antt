@@ -1,25 +1,23 @@
 -- An accepted list: its split is the one that a run has, every step of it can be said by a map, and lists can follow one another.
-use Prim.Native.Nat.{ℕ, zero, suc, _+_, _-_, _*_, _<_, _≤_}
+use Prim.Native.Nat.{ℕ, zero, suc, _+_, _-_, _*_, _≤_}
 use mathlib.Core.Path.{_≡_, refl, sym, _∙_, ap}
 use mathlib.Core.Bool.{Bool, true, false}
-use mathlib.Core.List.{List, [], _∷_, _++_}
+use mathlib.Core.List.{List, _++_}
 use native.Mathlib.Omega.{arith}
 use lib.Dec.{eqb}
 use lib.ListN.{length, drop, length-append}
 use borrow.Author.Tests.{eq-eqb, ne-eqb}
 use Rattle.decode.proofs.Laws.{accepted-size}
-use Rattle.seq.specs.Choice.{if_then_else_, both}
+use Rattle.seq.specs.Choice.{both}
 use Rattle.seq.proofs.Tabulate.{by-lt}
 use Rattle.isa.specs.declared.refusal.Refusal.{Refusal}
 use Rattle.isa.specs.declared.refusal.Refusal.the-variants.{Unmappable, MemoryLength}
 use Rattle.decode.specs.Instruction.{wantedOf}
-use Rattle.decode.specs.Decode.{decodeOf}
 use Rattle.decode.specs.declared.instruction.Third.{Third}
 use Rattle.decode.specs.declared.instruction.Instruction.{Instruction}
-use Rattle.decode.specs.declared.instruction.Decoded.{Decoded}
 use Rattle.moves.specs.Pick.{moveOf}
 use Rattle.moves.specs.Mappable.{byImmediate, inRegister, mappable}
-use Rattle.run.specs.Split.{Split, stopped, followed, onNext, split}
+use Rattle.run.specs.Split.{Split, followed, split}
 use Rattle.run.specs.Run.{withoutMemory}
 use Rattle.run.proofs.Splits.{First, nothing, refused, goes, first, joined, empty-cut, zero-cut, next-cut, enough, settled, followed-by}
 use Rattle.run.specs.declared.Answer.{Answer}

@@ -1,15 +1,14 @@
 -- What the loops over a list's steps keep: the split of what is left, from a place on.
-use Prim.Native.Nat.{ℕ, zero, suc, _+_, _-_, _*_, _<_, _≤_}
+use Prim.Native.Nat.{ℕ, suc, _+_, _-_, _<_, _≤_}
 use mathlib.Core.Path.{_≡_, refl, _∙_, sym, ap}
 use mathlib.Core.Bool.{Bool, true, false}
-use mathlib.Core.List.{List, [], _∷_}
+use mathlib.Core.List.{List, []}
 use native.Mathlib.Omega.{arith}
 use native.Mathlib.Nat.{sub-zero, zero-add}
 use lib.Dec.{eqb}
-use lib.ListN.{length, take, drop, length-drop, drop-of-length-le}
+use lib.ListN.{length, take, drop, length-drop}
 use lib.Seq.{drop-drop, take-all}
 use borrow.Author.Tests.{ne-eqb}
-use Rattle.seq.specs.Choice.{if_then_else_}
 use Rattle.isa.specs.declared.refusal.Refusal.{Refusal}
 use Rattle.isa.specs.declared.refusal.Refusal.the-variants.{Unmappable}
 use Rattle.decode.specs.Decode.{decodeOf}
@@ -19,7 +18,7 @@ use Rattle.decode.specs.declared.instruction.Decoded.{Decoded}
 use Rattle.moves.specs.Pick.{moveOf}
 use Rattle.moves.specs.Mappable.{byImmediate, inRegister, mappable}
 use Rattle.moves.specs.declared.Move.{Move}
-use Rattle.run.specs.Split.{Split, stopped, followed, onNext, split}
+use Rattle.run.specs.Split.{Split, stopped, followed, split}
 use Rattle.run.proofs.Splits.{next-cut, enough}
 use Rattle.run.specs.declared.Answer.{Answer}
 use Rattle.isa.specs.Kinds.{mapEntries, zeroEntry}

@@ -4,7 +4,7 @@
 -- Demands 1 and 2 are those promises, and have no theorem here: no entry point asks anything of its caller, and each promise sets the answer and every
 -- byte, refusals too. Demand 3 is about whole lists, and is stated here, in the demand's order.
 use Prim.Native.Nat.{ℕ, _<_, _≤_}
-use mathlib.Core.Path.{_≡_, refl, sym, _∙_, ap}
+use mathlib.Core.Path.{_≡_, sym, _∙_, ap}
 use mathlib.Core.List.{List, [], _++_}
 use native.Mathlib.Omega.{arith}
 use lib.ListN.{length}
@@ -13,12 +13,11 @@ use Rattle.run.specs.declared.Answer.{Answer}
 use Rattle.run.specs.Run.{runOf, fileAfterRun}
 use Rattle.run.proofs.Laws.{wholeBudget}
 use Rattle.bytemap.specs.ByteMap.{readByte, readEntry, applied, composed, applyOf, fileApplied, composeOf, mapComposed}
-use Rattle.bytemap.specs.Build.{identity, mapOf, buildSplit, buildOf, mapBuilt}
+use Rattle.bytemap.specs.Build.{mapOf, buildOf, mapBuilt}
 use Rattle.bytemap.specs.Accepted.{Accepted}
-use Rattle.bytemap.proofs.Laws.{low-fine, lone, length-lone, lone-bytes, not-apart, apply-identity}
-use Rattle.bytemap.proofs.Laws.{compose-left, compose-right}
+use Rattle.bytemap.proofs.Laws.{low-fine, lone, length-lone, lone-bytes, not-apart, apply-identity, compose-left, compose-right}
 use Rattle.bytemap.proofs.Acceptance.{facts, accepts, writes}
-use Rattle.claims.proofs.Words.{File, Map, Let}
+use Rattle.claims.proofs.Words.{File, Map, Admitted}
 use Rattle.claims.proofs.Whole.{fine-low, applies, composes, composed-passes, associates, applies-in-turn, named, length-map-of, low-map-of, map-runs, run-file, run-answer, join-answer, join-map, empty-done, empty-map}
 
 -- Built maps pass answers 1 and 9.
@@ -68,7 +67,7 @@ pub composing-is-associative : (a b c out : List ℕ) → Map a → Map b → Ma
 composing-is-associative a b c out p q r e = associates a b c out p q r e
 
 -- 4. The empty list is accepted, with masks and features that answer 1 lets pass.
-pub the-empty-list-is-accepted : (masks : List ℕ) (features : ℕ) → Let masks features → Accepted [] masks features
+pub the-empty-list-is-accepted : (masks : List ℕ) (features : ℕ) → Admitted masks features → Accepted [] masks features
 the-empty-list-is-accepted masks features l = accepts [] masks features (record { masks-size = l .0; known = l .1; short = omega arith; done = empty-done masks features })
 
 -- 4. Its map changes no file, and no map that it is composed with on either side.
@@ -134,5 +133,5 @@ pub building-writes-the-map : (code masks m : List ℕ) (features : ℕ) → len
 building-writes-the-map code masks m features e a = writes code masks features (facts code masks features a) m e
 
 -- 8. With masks or features that answer 1 refuses, no list is accepted, not even the empty one.
-pub nothing-is-accepted-with-refused-masks-or-features : (code masks : List ℕ) (features : ℕ) → (Let masks features → ⊥) → Accepted code masks features → ⊥
+pub nothing-is-accepted-with-refused-masks-or-features : (code masks : List ℕ) (features : ℕ) → (Admitted masks features → ⊥) → Accepted code masks features → ⊥
 nothing-is-accepted-with-refused-masks-or-features code masks features n a = let f = facts code masks features a in n (f .masks-size, f .known)

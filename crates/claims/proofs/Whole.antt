@@ -5,26 +5,23 @@ use mathlib.Core.Bool.{Bool, true, false}
 use mathlib.Core.List.{List, [], _∷_, _++_, map}
 use native.Mathlib.Omega.{arith}
 use native.Mathlib.Nat.{le-refl}
-use lib.Dec.{eqb, leb}
+use lib.Dec.{leb}
 use lib.ListN.{length, getD, length-map, List·getD-map}
-use borrow.Author.Tests.{eq-eqb, le-leb, leb-true}
-use Rattle.seq.specs.Choice.{if_then_else_, both}
+use borrow.Author.Tests.{eq-eqb, leb-true}
+use Rattle.seq.specs.Choice.{both}
 use Rattle.seq.proofs.Tabulate.{by-lt}
-use Rattle.isa.specs.Kinds.{fileSize, maskCount, mapEntries, zeroEntry, codeLimit}
-use Rattle.isa.specs.Features.{featuresKnown}
+use Rattle.isa.specs.Kinds.{fileSize, mapEntries, zeroEntry, codeLimit}
 use Rattle.isa.specs.declared.refusal.Refusal.the-variants.{Unmappable, MemoryLength}
 use Rattle.run.specs.declared.Answer.{Answer}
-use Rattle.run.specs.declared.Ran.{Ran}
-use Rattle.run.specs.Split.{Split, split}
+use Rattle.run.specs.Split.{Split}
 use Rattle.run.specs.Run.{withoutMemory, runSplit, filesOf, steppedRun, steppedFile, runOf, fileAfterRun}
 use Rattle.run.proofs.Splits.{zero-cut}
 use Rattle.run.proofs.Laws.{wholeBudget, Passed, run-is, file-is}
 use Rattle.moves.specs.Mappable.{mappable}
 use Rattle.bytemap.specs.ByteMap.{fine, readByte, readEntry, applied, composed, applyOf, fileApplied, composeOf, mapComposed}
 use Rattle.bytemap.specs.Build.{buildSplit, identity, mapsOf, mapOf}
-use Rattle.bytemap.specs.Accepted.{Accepted}
 use Rattle.bytemap.proofs.Laws.{Low, AllMapped, length-identity, reads-all, maps-to-file, maps-to-map, maps-join, length-maps, maps-low, identity-low, low-fine, zero-byte, zero-entry, apply-composed, compose-assoc, apply-agree}
-use Rattle.bytemap.proofs.Acceptance.{Facts, facts, accepts}
+use Rattle.bytemap.proofs.Acceptance.{Facts}
 use Rattle.bytemap.proofs.Lists.{any-fuel, runs-as-mapped, all-mapped, whole, join-split}
 use Rattle.claims.proofs.Words.{Map}
 

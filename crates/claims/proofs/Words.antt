@@ -17,5 +17,5 @@ abbrev pub Map : List ℕ → Type 0
 Map m = (length m ≡ mapEntries) × (fine m ≡ true)
 
 -- masks and features that answer 1 lets pass
-abbrev pub Let : List ℕ → ℕ → Type 0
-Let masks features = (length masks ≡ maskCount) × (featuresKnown features ≡ true)
+abbrev pub Admitted : List ℕ → ℕ → Type 0
+Admitted masks features = (length masks ≡ maskCount) × (featuresKnown features ≡ true)

@@ -2,11 +2,11 @@
 use Prim.Native.Nat.{ℕ, zero, suc, _+_, _-_, _<_, _≤_}
 use mathlib.Core.Path.{_≡_, refl, _∙_, sym, ap}
 use mathlib.Core.Bool.{Bool, true, false}
-use mathlib.Core.List.{List, [], _∷_}
+use mathlib.Core.List.{List, []}
 use native.Mathlib.Omega.{arith}
-use native.Mathlib.Nat.{sub-zero, zero-add, sub-self}
+use native.Mathlib.Nat.{sub-zero, zero-add}
 use lib.Dec.{eqb}
-use lib.ListN.{length, take, drop, length-drop, drop-of-length-le}
+use lib.ListN.{length, drop, length-drop, drop-of-length-le}
 use lib.Seq.{drop-drop}
 use borrow.Author.Tests.{eq-eqb, ne-eqb}
 use Rattle.seq.specs.Choice.{if_then_else_}
@@ -20,7 +20,7 @@ use Rattle.decode.specs.declared.instruction.Instruction.{Instruction}
 use Rattle.decode.specs.declared.instruction.Decoded.{Decoded}
 use Rattle.moves.proofs.Laws.{length-moved}
 use Rattle.step.specs.Step.{movedFile, executedOf, onDecoded, stepOf, fileAfter}
-use Rattle.step.proofs.Laws.{carried-out, refusal-keeps}
+use Rattle.step.proofs.Laws.{carried-out}
 use Rattle.step.specs.declared.Stepped.{Stepped}
 use Rattle.run.specs.Split.{Split, stopped, followed, onNext, split}
 use Rattle.run.specs.Run.{withoutMemory, runSplit, filesOf, steppedRun, steppedFile}

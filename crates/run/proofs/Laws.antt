@@ -8,7 +8,7 @@ use native.Mathlib.Nat.{add-zero}
 use lib.Dec.{eqb, leb}
 use lib.ListN.{length, drop, length-drop, length-append}
 use borrow.Author.Tests.{eqb-true, leb-true, eq-eqb, le-leb}
-use Rattle.seq.specs.Choice.{if_then_else_, both}
+use Rattle.seq.specs.Choice.{both}
 use Rattle.seq.proofs.Choice.{of-either}
 use Rattle.isa.specs.Kinds.{fileSize, maskCount, codeLimit}
 use Rattle.isa.specs.Features.{featuresKnown}

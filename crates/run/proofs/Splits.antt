@@ -1,6 +1,6 @@
 -- The laws of splits, whatever instructions are wanted: a step has at least four bytes; a quarter of the length is fuel enough; fuel can be spent in
 -- two parts; and a list that is split to its end can be followed by another.
-use Prim.Native.Nat.{ℕ, zero, suc, _+_, _*_, _<_, _≤_}
+use Prim.Native.Nat.{ℕ, zero, suc, _+_, _*_, _≤_}
 use mathlib.Core.Path.{_≡_, refl, _∙_, sym, ap}
 use mathlib.Core.Bool.{Bool, true, false}
 use mathlib.Core.List.{List, [], _∷_, _++_}
@@ -9,14 +9,13 @@ use native.Mathlib.Nat.{zero-add, suc-add, add-assoc}
 use lib.Dec.{eqb}
 use lib.ListN.{length, drop, length-drop, length-append}
 use lib.Seq.{drop-drop, drop-append-le}
-use borrow.Author.Tests.{eqb-true, eqb-false, eq-eqb, ne-eqb}
-use Rattle.seq.specs.Choice.{if_then_else_}
+use borrow.Author.Tests.{eqb-true, eq-eqb, ne-eqb}
 use Rattle.isa.specs.declared.refusal.Refusal.{Refusal}
 use Rattle.decode.specs.Decode.{decodeOf}
 use Rattle.decode.proofs.Laws.{accepted-size, accepted-append}
 use Rattle.decode.specs.declared.instruction.Instruction.{Instruction}
 use Rattle.decode.specs.declared.instruction.Decoded.{Decoded}
-use Rattle.run.specs.Split.{Split, stopped, followed, onNext, split}
+use Rattle.run.specs.Split.{Split, stopped, followed, split}
 use Rattle.run.specs.declared.Answer.{Answer}
 
 -- one split after another
