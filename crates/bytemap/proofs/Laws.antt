@@ -22,7 +22,8 @@ use Rattle.moves.proofs.Laws.{length-moved, moved-at, mappable-moves}
 use Rattle.moves.specs.declared.Origin.{Origin}
 use Rattle.run.specs.Run.{filesOf}
 use Rattle.bytemap.specs.ByteMap.{fine, readByte, readEntry, applied, composed}
-use Rattle.bytemap.specs.Build.{identity, entryIn, movedMap, mapsOf}
+use Rattle.bytemap.specs.Build.{identity, movedMap, mapsOf}
+use Rattle.bytemap.specs.Inner.{entryIn}
 use Rattle.bytemap.proofs.Rules.{part-entry}
 
 -- every instruction can be said by a map

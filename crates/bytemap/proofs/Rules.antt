@@ -19,7 +19,8 @@ use Rattle.moves.specs.Mappable.{byImmediate}
 use Rattle.moves.proofs.Placed.{placed-ext}
 use Rattle.moves.specs.declared.Move.{Move}
 use Rattle.moves.specs.declared.Origin.{Origin}
-use Rattle.bytemap.specs.Build.{entryIn, movedMap}
+use Rattle.bytemap.specs.Build.{movedMap}
+use Rattle.bytemap.specs.Inner.{entryIn}
 
 pub part-entry : (m : List ℕ) (r : Reg) (j : ℕ) → length m ≡ mapEntries → repeated zeroEntry (take 64 (drop (offsetOf r 0 .0) m)) j ≡ registerAt zeroEntry m r j
 part-entry m r j e =

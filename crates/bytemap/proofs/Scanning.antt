@@ -24,7 +24,8 @@ use Rattle.run.specs.declared.Answer.{Answer}
 use Rattle.isa.specs.Kinds.{mapEntries, zeroEntry}
 use Rattle.seq.proofs.Tabulate.{length-tabulate}
 use Rattle.moves.proofs.Laws.{length-moved}
-use Rattle.bytemap.specs.Build.{buildSplit, scannedOf, refusedAt, identity, movedMap, mapsOf, mapOf}
+use Rattle.bytemap.specs.Build.{buildSplit, scannedOf, identity, movedMap, mapsOf, mapOf}
+use Rattle.bytemap.specs.Inner.{refusedAt}
 use Rattle.bytemap.specs.declared.Built.{Built}
 
 -- the code from a place on, as the decoder is handed it

@@ -12,8 +12,7 @@ use Rattle.isa.specs.Features.{featuresKnown}
 use Rattle.isa.specs.declared.refusal.Refusal.{Refusal}
 use Rattle.isa.specs.declared.refusal.Refusal.the-variants.{Argument, Unmappable, TooLong}
 use Rattle.decode.specs.declared.instruction.Instruction.{Instruction}
-use Rattle.decode.specs.declared.instruction.Decoded.{Decoded}
-use Rattle.moves.specs.Moved.{thirdPart, entryOf, moved}
+use Rattle.moves.specs.Moved.{moved}
 use Rattle.moves.specs.Mappable.{mappable}
 use Rattle.run.specs.Split.{Split, split}
 use Rattle.run.specs.declared.Answer.{Answer}
@@ -22,10 +21,6 @@ use Rattle.bytemap.specs.declared.Built.{Built}
 -- the whole list: no list has more steps than bytes
 unfoldable pub buildSplit : List ℕ → ℕ → Split
 buildSplit code features = split mappable Unmappable features (length code) code
-
-abbrev pub refusedAt : ℕ → Decoded → Built
-refusedAt place (Decoded.Refused why) = record { place = place; answer = Answer.Refused why }
-refusedAt place (Decoded.Accepted x) = record { place = place; answer = Answer.Refused Unmappable }
 
 unfoldable pub scannedOf : List ℕ → ℕ → Built
 scannedOf code features = record { place = buildSplit code features .place; answer = buildSplit code features .answer }
@@ -37,10 +32,6 @@ identity = tabulate mapEntries (λ p. p)
 -- a step on a map: its entries move, and none of them is a control
 abbrev pub movedMap : Instruction → List ℕ → List ℕ → List ℕ
 movedMap x masks m = moved (λ e. 0) zeroEntry x masks [] m
-
--- entry i of the destination
-abbrev pub entryIn : Instruction → ℕ → List ℕ → ℕ → ℕ
-entryIn x bits m = entryOf (λ e. 0) zeroEntry x bits (thirdPart (x .third) [] m) m
 
 unfoldable pub mapsOf : List Instruction → List ℕ → List ℕ → List ℕ
 mapsOf [] masks m = m

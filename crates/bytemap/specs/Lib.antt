@@ -2,3 +2,4 @@
 pub mod ByteMap
 pub mod Build
 pub mod Accepted
+pub mod Inner

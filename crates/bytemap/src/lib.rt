@@ -9,7 +9,8 @@ ghost use Rattle.isa.specs.Kinds.{registers, fileSize, mapEntries, zeroEntry, c
 ghost use Rattle.moves.specs.Pick.{moveOf, immediateByte};
 ghost use Rattle.moves.specs.Moved.{registerAt, thirdPart, repeated, controlBy, placed};
 ghost use Rattle.moves.specs.Mappable.{byImmediate, inRegister, mappable};
-ghost use Rattle.bytemap.specs.Build.{buildSplit, refusedAt, scannedOf, identity, entryIn, movedMap, mapOf, refusedBuild, buildOf, mapOnAnswer, mapBuilt};
+ghost use Rattle.bytemap.specs.Build.{buildSplit, scannedOf, identity, movedMap, mapOf, refusedBuild, buildOf, mapOnAnswer, mapBuilt};
+ghost use Rattle.bytemap.specs.Inner.{refusedAt, entryIn};
 ghost use Rattle.bytemap.specs.ByteMap.{fine, applied, composed, applyOf, fileApplied, composeOf, mapComposed};
 use decode::instruction::Decoded;
 use decode::instruction::Instruction;

@@ -18,7 +18,7 @@ use Rattle.moves.specs.Origin.{originOf, shifted}
 use Rattle.moves.specs.Moved.{held, registerAt, firstRegister, repeated, elementStart, controlOf, entryOf}
 use Rattle.moves.proofs.Shift.{same, origin-shift}
 use Rattle.moves.specs.declared.Origin.{Origin}
-use Rattle.step.specs.Step.{controlByte, byteOf, originAt, elementOrigin, byteFrom}
+use Rattle.step.specs.Inner.{controlByte, byteOf, originAt, elementOrigin, byteFrom}
 
 -- a lane starts with an element
 lane-starts : (e : Element) (l : ℕ) → (16 * l + 0) % elementBytes e ≡ 0

@@ -8,7 +8,7 @@ use Rattle.seq.specs.Tabulate.{tabulate}
 use Rattle.seq.proofs.Tabulate.{getD-tabulate}
 use Rattle.moves.specs.Moved.{placed}
 use Rattle.moves.proofs.Placed.{placed-in}
-use Rattle.step.specs.Step.{lanesOf, laneByte}
+use Rattle.step.specs.Inner.{lanesOf, laneByte}
 
 pub lanes-at : (f : ℕ → ℕ) (i : ℕ) → i < 64 → laneByte (lanesOf f) i ≡ f i
 unfolding lanesOf laneByte

@@ -24,7 +24,8 @@ use Rattle.moves.specs.Moved.{registerAt, firstRegister, thirdPart, repeated, c
 use Rattle.moves.proofs.Placed.{placed-ext}
 use Rattle.moves.specs.declared.Move.{Move}
 use Rattle.moves.specs.declared.Origin.{Origin}
-use Rattle.step.specs.Step.{controlByte, byteOf, originAt, elementOrigin, byteFrom, lanesOf, laneByte, refusedOf, executedOf, executedFile, stepOf, fileAfter}
+use Rattle.step.specs.Step.{executedOf, executedFile, stepOf, fileAfter}
+use Rattle.step.specs.Inner.{controlByte, byteOf, originAt, elementOrigin, byteFrom, lanesOf, laneByte, refusedOf}
 use Rattle.step.specs.declared.Stepped.{Stepped}
 use Rattle.step.proofs.FourLanes.{lanes-at}
 

@@ -3,7 +3,7 @@ use mathlib.Core.Path.{_≡_, refl}
 use native.Mathlib.Omega.{arith}
 use borrow.Author.Needs.{needs}
 use Rattle.seq.proofs.Tabulate.{upto, upto-start, upto-more, upto-all}
-use Rattle.bytemap.specs.Build.{entryIn}
+use Rattle.bytemap.specs.Inner.{entryIn}
 use Rattle.bytemap.proofs.entries.Statement.{statement}
 use Rattle.bytemap.proofs.entries.Tie as tie
 

@@ -3,7 +3,7 @@ use mathlib.Core.Path.{_≡_, refl}
 use native.Mathlib.Omega.{arith}
 use borrow.Author.Needs.{needs}
 use Rattle.seq.proofs.Tabulate.{upto, upto-start, upto-more, upto-all}
-use Rattle.step.specs.Step.{byteOf}
+use Rattle.step.specs.Inner.{byteOf}
 use Rattle.step.proofs.Elements.{Known, lane-begins, turned}
 use Rattle.step.proofs.lane_bytes.Statement.{statement}
 use Rattle.step.proofs.lane_bytes.Tie as tie

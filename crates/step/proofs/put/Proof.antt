@@ -8,7 +8,7 @@ use lib.ListN.{length, length-set}
 use Rattle.seq.proofs.Tabulate.{upto, upto-start, upto-more, upto-end}
 use Rattle.moves.specs.Moved.{placed}
 use Rattle.moves.proofs.Placed.{placed-out}
-use Rattle.step.specs.Step.{laneByte}
+use Rattle.step.specs.Inner.{laneByte}
 use Rattle.step.proofs.FourLanes.{placed-lane}
 use Rattle.step.proofs.Rules.{starts}
 use Rattle.step.proofs.put.Statement.{statement}

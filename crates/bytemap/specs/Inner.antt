@@ -1,0 +1,18 @@
+-- What the contracts of building's inner functions say: the way in which the code works. No public promise cites these, so that nobody has to believe them.
+use Prim.Native.Nat.{ℕ}
+use mathlib.Core.List.{List, []}
+use Rattle.isa.specs.Kinds.{zeroEntry}
+use Rattle.isa.specs.declared.refusal.Refusal.the-variants.{Unmappable}
+use Rattle.decode.specs.declared.instruction.Instruction.{Instruction}
+use Rattle.decode.specs.declared.instruction.Decoded.{Decoded}
+use Rattle.moves.specs.Moved.{thirdPart, entryOf}
+use Rattle.run.specs.declared.Answer.{Answer}
+use Rattle.bytemap.specs.declared.Built.{Built}
+
+abbrev pub refusedAt : ℕ → Decoded → Built
+refusedAt place (Decoded.Refused why) = record { place = place; answer = Answer.Refused why }
+refusedAt place (Decoded.Accepted x) = record { place = place; answer = Answer.Refused Unmappable }
+
+-- entry i of the destination
+abbrev pub entryIn : Instruction → ℕ → List ℕ → ℕ → ℕ
+entryIn x bits m = entryOf (λ e. 0) zeroEntry x bits (thirdPart (x .third) [] m) m
