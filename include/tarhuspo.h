@@ -38,6 +38,8 @@ extern "C" {
 /* Most bytes of a list of instructions, and a number of instructions that no list exceeds. */
 #define TARHUSPO_CODE_LIMIT 4096
 #define TARHUSPO_MOST_STEPS 1024
+/* Least bytes of the text of a listing. Every listing fits. */
+#define TARHUSPO_TEXT_SIZE 25624
 
 /*
  * A decoded instruction.
@@ -203,6 +205,34 @@ uint32_t tarhuspo_bytemap_apply(const uint16_t *map, size_t map_len, uint8_t *fi
  */
 uint32_t tarhuspo_bytemap_compose(const uint16_t *first, size_t first_len, const uint16_t *second,
                                   size_t second_len, uint16_t *out, size_t out_len);
+
+/*
+ * The result of a listing.
+ *
+ * status is 0 if the text was written, also for code that is refused. Otherwise it is the first of
+ * these that applies, and written is 0:
+ *
+ *  1  text_len is under 25624.
+ *  8  code_len is over 4096.
+ */
+typedef struct {
+    uint64_t written; /* bytes of text that were written */
+    uint32_t status;  /* 0, or 1 or 8 as above */
+} tarhuspo_listed;
+
+/*
+ * Writes a list of instructions as text: a line of headings (at, len, name, bits, answer), then for
+ * each instruction a line with its place, length, mnemonic, vector width in bits, and 0. All
+ * features count as there, and memory forms are listed like others. The first instruction that
+ * tarhuspo_decode refuses has the last line: its place, 0, -, 0, and the status. Numbers are
+ * decimal, a tab stands between fields, and a newline ends every line, also the last. No null byte
+ * is added.
+ *
+ * If status is 0, the first written bytes of text are changed and no others. Otherwise nothing is
+ * changed. code is never written to.
+ */
+tarhuspo_listed tarhuspo_listing(const uint8_t *code, size_t code_len, uint8_t *text,
+                                 size_t text_len);
 
 #ifdef __cplusplus
 }

@@ -1,20 +1,12 @@
--- What the C interface gives about lists and byte maps, by what its callees gave.
+-- What the C interface gives about lists, byte maps and listings, by what its callees gave.
 use Prim.Native.Nat.{ℕ}
 use mathlib.Core.Path.{_≡_}
 use Rattle.run.specs.declared.Answer.{Answer}
-use Rattle.run.specs.declared.Ran.{Ran}
-use Rattle.bytemap.specs.declared.Built.{Built}
-use Rattle.tarhuspo.specs.Lists.{answerStatus, ranOf, builtOf}
-use Rattle.tarhuspo.specs.declared.TarhuspoRan.{TarhuspoRan}
-use Rattle.tarhuspo.specs.declared.TarhuspoBuilt.{TarhuspoBuilt}
+use Rattle.tarhuspo.specs.Lists.{answerStatus}
 
 pub gives-status : (k want : Answer) → k ≡ want → (s : ℕ) → s ≡ answerStatus k → s ≡ answerStatus want
 gives-status k want p s e = rw (← p) e
 
-pub gives-ran : (k want : Ran) → k ≡ want → (s : ℕ) → s ≡ answerStatus (k .answer)
-    → _≡_ {A = TarhuspoRan} (record { steps = k .steps; place = k .place; status = s }) (ranOf want)
-gives-ran k want p s e = rw (← p, e)
-
-pub gives-built : (k want : Built) → k ≡ want → (s : ℕ) → s ≡ answerStatus (k .answer)
-    → _≡_ {A = TarhuspoBuilt} (record { place = k .place; status = s }) (builtOf want)
-gives-built k want p s e = rw (← p, e)
+-- a struct that is made of what a callee gave and of its answer's number
+pub gives : {A B : Type 0} (answer : A → Answer) (make : A → ℕ → B) (k want : A) → k ≡ want → (s : ℕ) → s ≡ answerStatus (answer k) → make k s ≡ make want (answerStatus (answer want))
+gives answer make k want p s e = rw (← p, e)

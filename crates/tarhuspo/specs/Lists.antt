@@ -1,11 +1,13 @@
--- The answers about lists and byte maps as the C interface gives them.
+-- The answers about lists, byte maps and listings as the C interface gives them.
 use Prim.Native.Nat.{ℕ}
 use Rattle.isa.specs.Refusal.{statusOf}
 use Rattle.run.specs.declared.Answer.{Answer}
 use Rattle.run.specs.declared.Ran.{Ran}
 use Rattle.bytemap.specs.declared.Built.{Built}
 use Rattle.tarhuspo.specs.declared.TarhuspoRan.{TarhuspoRan}
+use Rattle.listing.specs.declared.Listed.{Listed}
 use Rattle.tarhuspo.specs.declared.TarhuspoBuilt.{TarhuspoBuilt}
+use Rattle.tarhuspo.specs.declared.TarhuspoListed.{TarhuspoListed}
 
 abbrev pub answerStatus : Answer → ℕ
 answerStatus Answer.Done = 0
@@ -16,3 +18,6 @@ ranOf r = record { steps = r .steps; place = r .place; status = answerStatus (r 
 
 abbrev pub builtOf : Built → TarhuspoBuilt
 builtOf b = record { place = b .place; status = answerStatus (b .answer) }
+
+abbrev pub listedOf : Listed → TarhuspoListed
+listedOf l = record { written = l .written; status = answerStatus (l .answer) }

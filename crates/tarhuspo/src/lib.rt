@@ -7,7 +7,8 @@ ghost use Rattle.run.specs.Run.{runOf, fileAfterRun};
 ghost use Rattle.bytemap.specs.Build.{buildOf, mapBuilt};
 ghost use Rattle.bytemap.specs.ByteMap.{applyOf, fileApplied, composeOf, mapComposed};
 ghost use Rattle.tarhuspo.specs.Stepped.{steppedOf};
-ghost use Rattle.tarhuspo.specs.Lists.{answerStatus, ranOf, builtOf};
+ghost use Rattle.listing.specs.Listing.{listingOf, textAfter};
+ghost use Rattle.tarhuspo.specs.Lists.{answerStatus, ranOf, builtOf, listedOf};
 ghost use Rattle.tarhuspo.specs.Decoded.{encodingNumber, firstNumber, thirdNumber, hasImmediate, immediateNumber, flag, acceptedOf, refusedOf, decodedOf};
 use decode::instruction::Decoded;
 use decode::instruction::First;
@@ -255,4 +256,23 @@ pub extern "C" fn tarhuspo_bytemap_compose(first: &[u16], second: &[u16], out: &
     ensures { λ r. ⌜ (r ≡ answerStatus (composeOf (now (first .entry)) (now (second .entry)) (length (now (out .entry))))) × (now (out .exit) ≡ mapComposed (now (first .entry)) (now (second .entry)) (now (out .entry))) ⌝ }
 {
     status_of(bytemap::compose(first, second, out))
+}
+
+// tarhuspo_listed
+#[repr(C)]
+pub struct TarhuspoListed {
+    pub written: u64,
+    pub status: u32,
+}
+
+#[no_mangle]
+pub extern "C" fn tarhuspo_listing(code: &[u8], text: &mut [u8]) -> TarhuspoListed
+    ensures { λ r. ⌜ (r ≡ listedOf (listingOf (now (code .entry)) (length (now (text .entry))))) × (now (text .exit) ≡ textAfter (now (code .entry)) (now (text .entry))) ⌝ }
+{
+    let listed = listing::listing(code, text);
+    let answer = listed.answer;
+    TarhuspoListed {
+        written: listed.written as u64,
+        status: status_of(answer),
+    }
 }

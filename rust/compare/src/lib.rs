@@ -12,6 +12,7 @@ pub mod faults;
 mod fields;
 pub mod form;
 pub mod guard;
+pub mod listings;
 pub mod lists;
 pub mod mapping;
 pub mod random;

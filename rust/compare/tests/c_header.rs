@@ -71,7 +71,13 @@ fn c_program_runs_against_the_archive() {
                     refused build: 9 3, entry 0\n\
                     apply: 0, bytes 199 0\n\
                     compose: 0, entries 132 0\n\
-                    refused apply: 9\n";
+                    refused apply: 9\n\
+                    refused listing: 0 1, byte 0\n\
+                    listing: 72 0\n\
+                    at\tlen\tname\tbits\tanswer\n\
+                    0\t4\tVUNPCKLPS\t128\t0\n\
+                    4\t5\tVPSHUFD\t128\t0\n\
+                    9\t0\t-\t0\t3\n";
     assert_eq!(printed, expected);
 }
 

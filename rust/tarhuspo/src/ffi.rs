@@ -3,7 +3,7 @@
 //! Every pointer must be non-null, aligned and valid for its length, also where that is 0, and a
 //! buffer that is written to must not overlap another.
 
-use crate::{Built, Decoded, Ran, Stepped};
+use crate::{Built, Decoded, Listed, Ran, Stepped};
 
 extern "C" {
     pub fn tarhuspo_decode(code: *const u8, code_len: usize, features: u32) -> Decoded;
@@ -56,4 +56,11 @@ extern "C" {
         out: *mut u16,
         out_len: usize,
     ) -> u32;
+
+    pub fn tarhuspo_listing(
+        code: *const u8,
+        code_len: usize,
+        text: *mut u8,
+        text_len: usize,
+    ) -> Listed;
 }

@@ -17,6 +17,7 @@ mod decode;
 pub mod features;
 mod ffi;
 pub mod limits;
+mod listing;
 mod mnemonic;
 mod run;
 mod status;
@@ -24,6 +25,7 @@ mod step;
 
 pub use bytemap::{bytemap_apply, bytemap_build, bytemap_compose, Built};
 pub use decode::{decode, Decoded};
+pub use listing::{listing, Listed};
 pub use mnemonic::mnemonic_name;
 pub use run::{run, Ran};
 pub use status::describe;

@@ -1,5 +1,5 @@
-//! Sizes and limits of the library. A buffer of another size is refused with status 1, a list of
-//! instructions above its limit with status 8.
+//! Sizes and limits of the library. A buffer of another size is refused with status 1 (a text only if
+//! it is smaller), a list of instructions above its limit with status 8.
 
 /// Bytes of the register file: 32 registers of 64 bytes.
 pub const FILE_SIZE: usize = 2_048;
@@ -13,3 +13,5 @@ pub const MOST_STEPS: u64 = 1_024;
 pub const MAP_SIZE: usize = FILE_SIZE;
 /// The entry of a byte map that stands for a zero byte.
 pub const MAP_ZERO: u16 = 2_048;
+/// Least bytes of the text of a listing. Every listing fits.
+pub const TEXT_SIZE: usize = 25_624;

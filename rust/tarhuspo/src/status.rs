@@ -3,7 +3,7 @@
 /// One sentence on what a status number means.
 ///
 /// Decoding gives 0 to 5, a step 0 to 6, and a run also 8. Building a byte map gives 0 to 5, 7 or 8,
-/// applying and composing give 0, 1 or 9.
+/// applying and composing give 0, 1 or 9, and a listing 0, 1 or 8.
 ///
 /// ```
 /// use tarhuspo::{decode, describe, features};

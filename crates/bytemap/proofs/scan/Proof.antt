@@ -2,8 +2,8 @@ use Prim.Native.Nat.{_-_}
 use native.Mathlib.Omega.{arith}
 use borrow.Author.Needs.{needs}
 use lib.ListN.{length}
-use Rattle.decode.specs.declared.instruction.Instruction.{Instruction}
-use Rattle.bytemap.proofs.Scanning.{part-is, Next, Scanning, begins, goes-on, scan-ends, scan-refused, scan-unmappable, scan-next}
+use Rattle.run.proofs.Rests.{part-is}
+use Rattle.bytemap.proofs.Scanning.{Mapped, Scanning, begins, goes-on, scan-ends, scan-refused, scan-unmappable, scan-next}
 use Rattle.bytemap.proofs.scan.Statement.{statement}
 use Rattle.bytemap.proofs.scan.Tie as tie
 
@@ -29,7 +29,7 @@ returns c =
     (d .decode .ensures) (t .enum-told .given .0 .0) (t .enum-told .given .1) _ (c .refused-at .ensures)
 
 -- the instruction that was found, and that a map can say it
-next : (c : tie.Then1 Inv-loop μ-loop) → Next (entry (turn (c .before .before .before .before .before)) .args .code .now) (entry (turn (c .before .before .before .before .before)) .args .features .0)
+next : (c : tie.Then1 Inv-loop μ-loop) → Mapped (entry (turn (c .before .before .before .before .before)) .args .code .now) (entry (turn (c .before .before .before .before .before)) .args .features .0)
     (turn (c .before .before .before .before .before) .before .loop .place) (turn (c .before .before .before .before .before) .loop-test .taken) (c .before .before .before .decoded .given .0 .0)
 next c =
     let m = c .before in

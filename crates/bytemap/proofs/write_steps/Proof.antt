@@ -1,9 +1,9 @@
 use Prim.Native.Nat.{_-_}
-use mathlib.Core.Path.{_≡_}
 use native.Mathlib.Omega.{arith}
 use borrow.Author.Needs.{needs}
 use lib.ListN.{length}
-use Rattle.bytemap.proofs.Scanning.{part-is, Next, Writing, starts-writing, written, never-refused, write-next, writes-on}
+use Rattle.run.proofs.Rests.{part-is}
+use Rattle.bytemap.proofs.Scanning.{Mapped, Writing, starts-writing, written, never-refused, write-next, writes-on}
 use Rattle.bytemap.proofs.write_steps.Statement.{statement}
 use Rattle.bytemap.proofs.write_steps.Tie as tie
 
@@ -36,7 +36,7 @@ returns c =
     (d .decode .ensures) (c .enum-told .given .0 .0) (c .enum-told .given .1))
 
 -- the instruction that was found
-next : (x : tie.After-decoded Inv-loop μ-loop) → Next (entry (turn (x .before .before) .before) .args .code .now) (entry (turn (x .before .before) .before) .args .features .0)
+next : (x : tie.After-decoded Inv-loop μ-loop) → Mapped (entry (turn (x .before .before) .before) .args .code .now) (entry (turn (x .before .before) .before) .args .features .0)
     (turn (x .before .before) .before .loop .place) (turn (x .before .before) .loop-test .taken) (x .decoded .given .0 .0)
 next x =
     let d = x .before .before in

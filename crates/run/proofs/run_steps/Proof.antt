@@ -4,10 +4,10 @@ use mathlib.Core.List.{List, []}
 use native.Mathlib.Omega.{arith}
 use borrow.Author.Needs.{needs}
 use native.Mathlib.Nat.{sub-self}
-use lib.ListN.{length, take, drop, length-drop}
-use lib.Seq.{take-all}
+use lib.ListN.{length, take, drop}
 use Rattle.step.specs.declared.Stepped.{Stepped}
 use Rattle.step.proofs.Laws.{refusal-keeps}
+use Rattle.run.proofs.Rests.{part-is}
 use Rattle.run.proofs.Going.{Going, Gone, begins, at-end, budget-spent, next-is-refused, next-is-done}
 use Rattle.run.proofs.run_steps.Statement.{statement}
 use Rattle.run.proofs.run_steps.Tie as tie
@@ -27,10 +27,7 @@ same-length c = let g = c .before .before .loop .inv in omega (arith, g .size)
 returns : tie.Need-returns Inv-loop μ-loop
 returns c = at-end _ _ _ _ _ _ _ _ (c .before .before .loop .inv) (c .if1 .taken)
 
--- the code from a place on, and no memory, as the step is handed them
-part-is : (code : List ℕ) (place : ℕ) → take (length code - place) (drop place code) ≡ drop place code
-part-is code place = take-all (length code - place) (drop place code) (omega (arith, length-drop place code))
-
+-- no memory, as the step is handed it
 none-is : (code : List ℕ) (place : ℕ) → take (place - place) (drop place code) ≡ []
 none-is code place = rw (sub-self place)
 

@@ -1,7 +1,13 @@
+use Prim.Native.Nat.{ℕ}
 use borrow.Author.Needs.{needs}
-use Rattle.tarhuspo.proofs.Lists.{gives-ran}
+use Rattle.run.specs.declared.Ran.{Ran}
+use Rattle.tarhuspo.specs.declared.TarhuspoRan.{TarhuspoRan}
+use Rattle.tarhuspo.proofs.Lists.{gives}
 use Rattle.tarhuspo.proofs.tarhuspo_run.Statement.{statement}
 use Rattle.tarhuspo.proofs.tarhuspo_run.Tie as tie
+
+abbrev made : Ran → ℕ → TarhuspoRan
+made r s = record { steps = r .steps; place = r .place; status = s }
 
 pub tarhuspo-run-spec : {M : Type 1} → statement M
 tarhuspo-run-spec =
@@ -10,4 +16,4 @@ tarhuspo-run-spec =
     (λ c κs. search needs)
     (λ c κs. search needs)
     (λ c. search needs)
-    (λ c. search (needs, gives-ran) depth 12))
+    (λ c. search (needs, gives (λ (r : Ran). r .answer) made) depth 12))

@@ -38,6 +38,10 @@ SIZE(tarhuspo_built, 16);
 FIELD(tarhuspo_built, place, 0);
 FIELD(tarhuspo_built, status, 8);
 
+SIZE(tarhuspo_listed, 16);
+FIELD(tarhuspo_listed, written, 0);
+FIELD(tarhuspo_listed, status, 8);
+
 static void print(const char *name, tarhuspo_decoded d)
 {
     printf("%s: %u %u %u %u %u %u %u %u %u %u %u %u %u %u\n", name, d.status, d.length, d.memory,
@@ -121,11 +125,24 @@ static void bytemap(void)
     printf("refused apply: %u\n", status);
 }
 
+static uint8_t text[TARHUSPO_TEXT_SIZE];
+
+static void listing(void)
+{
+    tarhuspo_listed l = tarhuspo_listing(list, sizeof list, text, sizeof text - 1);
+
+    printf("refused listing: %" PRIu64 " %u, byte %u\n", l.written, l.status, text[0]);
+    l = tarhuspo_listing(list, sizeof list, text, sizeof text);
+    printf("listing: %" PRIu64 " %u\n%.*s", l.written, l.status, (int)l.written,
+           (const char *)text);
+}
+
 int main(void)
 {
     decode();
     step();
     run();
     bytemap();
+    listing();
     return 0;
 }

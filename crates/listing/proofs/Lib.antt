@@ -1,0 +1,6 @@
+-- The listing's laws, and lemmas that its proofs cite.
+mod Puts
+mod Numbers
+mod Lines
+pub mod Bounds
+mod Order

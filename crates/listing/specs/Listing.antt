@@ -1,0 +1,86 @@
+-- Document 01, "Lists, sheets, listing": a list of instructions as text. Headings, a line for each step, and a line for the refusal if there is one.
+use Prim.Native.Nat.{ℕ, _+_, _*_}
+use mathlib.Core.Bool.{true}
+use mathlib.Core.List.{List, [], _∷_, _++_}
+use lib.Dec.{leb}
+use lib.ListN.{length, drop}
+use Rattle.seq.specs.Choice.{if_then_else_}
+use Rattle.isa.specs.Kinds.{codeLimit, textLeast}
+use Rattle.isa.specs.Features.{allFeatures}
+use Rattle.isa.specs.Operands.{widthBytes}
+use Rattle.isa.specs.Refusal.{statusOf}
+use Rattle.isa.specs.declared.operands.Mnemonic.{Mnemonic}
+use Rattle.isa.specs.declared.operands.Mnemonic.the-variants.{Vpermilpd, Vpermb, Vunpcklps, Vpshufd, Vperm2f128}
+use Rattle.isa.specs.declared.refusal.Refusal.{Refusal}
+use Rattle.isa.specs.declared.refusal.Refusal.the-variants.{Argument, TooLong}
+use Rattle.decode.specs.declared.instruction.Instruction.{Instruction}
+use Rattle.run.specs.Split.{Split, split}
+use Rattle.run.specs.declared.Answer.{Answer}
+use Rattle.listing.specs.Text.{ascii, decimal}
+use Rattle.listing.specs.declared.Name.{Name}
+use Rattle.listing.specs.declared.Line.{Line}
+use Rattle.listing.specs.declared.Listed.{Listed}
+
+abbrev pub headings : List ℕ
+headings = ascii "at\tlen\tname\tbits\tanswer\n"
+
+abbrev pub mnemonicText : Mnemonic → List ℕ
+mnemonicText Vpermilpd = ascii "VPERMILPD"
+mnemonicText Vpermb = ascii "VPERMB"
+mnemonicText Vunpcklps = ascii "VUNPCKLPS"
+mnemonicText Vpshufd = ascii "VPSHUFD"
+mnemonicText Vperm2f128 = ascii "VPERM2F128"
+
+abbrev pub nameText : Name → List ℕ
+nameText (Name.Of mnemonic) = mnemonicText mnemonic
+nameText Name.Absent = ascii "-"
+
+-- a tab after a field, and a newline after the last
+abbrev pub field : List ℕ → List ℕ
+field text = text ++ ascii "\t"
+
+unfoldable pub lineText : Line → List ℕ
+lineText l =
+    field (decimal (l .place)) ++ field (decimal (l .length)) ++ field (nameText (l .name)) ++ field (decimal (l .bits)) ++ decimal (l .status) ++ ascii "\n"
+
+-- a step that decodes
+abbrev pub acceptedLine : ℕ → Instruction → Line
+acceptedLine place x = record { place = place; length = x .length; name = Name.Of (x .mnemonic); bits = 8 * widthBytes (x .width); status = 0 }
+
+-- the step that is refused
+abbrev pub refusedLine : ℕ → Refusal → Line
+refusedLine place why = record { place = place; length = 0; name = Name.Absent; bits = 0; status = statusOf why }
+
+-- every step that decodes is wanted, memory or not, so that Argument is not given here
+unfoldable pub listedSplit : List ℕ → Split
+listedSplit code = split (λ x. true) Argument allFeatures (length code) code
+
+-- the steps' lines, from a place on
+unfoldable pub stepLines : ℕ → List Instruction → List ℕ
+stepLines place [] = []
+stepLines place (x ∷ xs) = lineText (acceptedLine place x) ++ stepLines (place + x .length) xs
+
+-- the line after them: none at the end of the list
+unfoldable pub lastLine : ℕ → Answer → List ℕ
+lastLine place Answer.Done = []
+lastLine place (Answer.Refused why) = lineText (refusedLine place why)
+
+unfoldable pub listingText : List ℕ → List ℕ
+listingText code = let s = listedSplit code in headings ++ (stepLines 0 (s .instructions) ++ lastLine (s .place) (s .answer))
+
+abbrev pub refusedListing : Refusal → Listed
+refusedListing why = record { written = 0; answer = Answer.Refused why }
+
+-- the size of the text, then the list's length. A list with a refused step is listed like others
+unfoldable pub listingOf : List ℕ → ℕ → Listed
+listingOf code text =
+    if leb textLeast text then
+    (if leb (length code) codeLimit then record { written = length (listingText code); answer = Answer.Done } else refusedListing TooLong)
+    else refusedListing Argument
+
+-- what the text holds afterwards: the listing in front, and behind it what was there
+unfoldable pub textAfter : List ℕ → List ℕ → List ℕ
+textAfter code text =
+    if leb textLeast (length text) then
+    (if leb (length code) codeLimit then listingText code ++ drop (length (listingText code)) text else text)
+    else text

@@ -1,0 +1,181 @@
+// A list of instructions as text.
+ghost use mathlib.Core.Path.{_≡_};
+ghost use mathlib.Core.List.{_∷_, []};
+ghost use Prim.Native.Nat.{_+_, _≤_};
+ghost use lib.ListN.{length};
+ghost use Rattle.listing.specs.Text.{decimal};
+ghost use Rattle.listing.specs.Inner.{putAt, lineOf, linesFrom};
+ghost use Rattle.listing.specs.Listing.{field, mnemonicText, nameText, lineText, refusedListing, listingOf, textAfter};
+use decode::instruction::Decoded;
+use decode::instruction::Instruction;
+use isa::features::Features;
+use isa::kinds::Code;
+use isa::kinds::Text;
+use isa::operands::Mnemonic;
+use isa::refusal::Refusal;
+use run::Answer;
+
+pub enum Name {
+    Of(Mnemonic),
+    // A refused step has none.
+    Absent,
+}
+
+// What a line says of a step.
+pub struct Line {
+    pub place: usize,
+    pub length: usize,
+    pub name: Name,
+    pub bits: u32,
+    pub status: u32,
+}
+
+pub struct Listed {
+    // Bytes of the text.
+    pub written: usize,
+    pub answer: Answer,
+}
+
+// Writes one byte, and gives the place behind it.
+fn put(text: &mut [u8], at: usize, byte: u8) -> usize
+    requires { ⌜ at + 1 ≤ length (now text) ⌝ }
+    ensures { λ r. ⌜ (r ≡ at + 1) × (now (text .exit) ≡ putAt (now (text .entry)) at (byte ∷ [])) ⌝ }
+{
+    text[at] = byte;
+    at + 1
+}
+
+fn put_all(text: &mut [u8], at: usize, bytes: &[u8]) -> usize
+    requires { ⌜ at + length (now bytes) ≤ length (now text) ⌝ }
+    ensures { λ r. ⌜ (r ≡ at + length (now (bytes .entry))) × (now (text .exit) ≡ putAt (now (text .entry)) at (now (bytes .entry))) ⌝ }
+{
+    for i in 0..bytes.len() {
+        text[at + i] = bytes[i];
+    }
+    at + bytes.len()
+}
+
+// The digits in front of the last one, then the last one.
+fn put_number(text: &mut [u8], at: usize, number: usize) -> usize
+    requires { ⌜ at + length (decimal number) ≤ length (now text) ⌝ }
+    ensures { λ r. ⌜ (r ≡ at + length (decimal number)) × (now (text .exit) ≡ putAt (now (text .entry)) at (decimal number)) ⌝ }
+{
+    if number < 10 {
+        return put(text, at, number as u8 + b'0');
+    }
+    let last = put_number(text, at, number / 10);
+    put(text, last, (number % 10) as u8 + b'0')
+}
+
+fn put_field(text: &mut [u8], at: usize, number: usize) -> usize
+    requires { ⌜ at + length (field (decimal number)) ≤ length (now text) ⌝ }
+    ensures { λ r. ⌜ (r ≡ at + length (field (decimal number))) × (now (text .exit) ≡ putAt (now (text .entry)) at (field (decimal number))) ⌝ }
+{
+    let end = put_number(text, at, number);
+    put(text, end, b'\t')
+}
+
+fn put_mnemonic(text: &mut [u8], at: usize, mnemonic: Mnemonic) -> usize
+    requires { ⌜ at + length (field (mnemonicText mnemonic)) ≤ length (now text) ⌝ }
+    ensures { λ r. ⌜ (r ≡ at + length (field (mnemonicText mnemonic))) × (now (text .exit) ≡ putAt (now (text .entry)) at (field (mnemonicText mnemonic))) ⌝ }
+{
+    match mnemonic {
+        Mnemonic::Vpermilpd => put_all(text, at, b"VPERMILPD\t"),
+        Mnemonic::Vpermb => put_all(text, at, b"VPERMB\t"),
+        Mnemonic::Vunpcklps => put_all(text, at, b"VUNPCKLPS\t"),
+        Mnemonic::Vpshufd => put_all(text, at, b"VPSHUFD\t"),
+        Mnemonic::Vperm2f128 => put_all(text, at, b"VPERM2F128\t"),
+    }
+}
+
+fn put_name(text: &mut [u8], at: usize, name: Name) -> usize
+    requires { ⌜ at + length (field (nameText name)) ≤ length (now text) ⌝ }
+    ensures { λ r. ⌜ (r ≡ at + length (field (nameText name))) × (now (text .exit) ≡ putAt (now (text .entry)) at (field (nameText name))) ⌝ }
+{
+    match name {
+        Name::Of(mnemonic) => put_mnemonic(text, at, mnemonic),
+        Name::Absent => put_all(text, at, b"-\t"),
+    }
+}
+
+fn put_line(text: &mut [u8], at: usize, line: Line) -> usize
+    requires { ⌜ at + length (lineText line) ≤ length (now text) ⌝ }
+    ensures { λ r. ⌜ (r ≡ at + length (lineText line)) × (now (text .exit) ≡ putAt (now (text .entry)) at (lineText line)) ⌝ }
+{
+    let name = line.name;
+    let after_place = put_field(text, at, line.place);
+    let after_length = put_field(text, after_place, line.length);
+    let after_name = put_name(text, after_length, name);
+    let after_bits = put_field(text, after_name, line.bits as usize);
+    let after_status = put_number(text, after_bits, line.status as usize);
+    put(text, after_status, b'\n')
+}
+
+fn line_of(place: usize, decoded: Decoded) -> Line
+    ensures { λ r. ⌜ r ≡ lineOf place decoded ⌝ }
+{
+    match decoded {
+        Decoded::Accepted(x) => {
+            let mnemonic = x.mnemonic;
+            let width = x.width;
+            Line {
+                place: place,
+                length: x.length,
+                name: Name::Of(mnemonic),
+                bits: 8 * width.bytes() as u32,
+                status: 0,
+            }
+        }
+        Decoded::Refused(why) => Line {
+            place: place,
+            length: 0,
+            name: Name::Absent,
+            bits: 0,
+            status: why.status(),
+        },
+    }
+}
+
+// A line for each step. The first that is refused has the last one.
+fn put_lines(code: &[u8], text: &mut [u8], at: usize) -> usize
+    requires { ⌜ at + length (linesFrom (now code) 0) ≤ length (now text) ⌝ }
+    ensures { λ r. ⌜ (r ≡ at + length (linesFrom (now (code .entry)) 0)) × (now (text .exit) ≡ putAt (now (text .entry)) at (linesFrom (now (code .entry)) 0)) ⌝ }
+{
+    let mut place: usize = 0;
+    let mut end = at;
+    while place < code.len() {
+        let decoded = decode::decode(&code[place..], Features(Features::LIMIT));
+        end = put_line(text, end, line_of(place, decoded));
+        let Decoded::Accepted(x) = decoded else {
+            return end;
+        };
+        place += x.length;
+    }
+    end
+}
+
+fn refused(why: Refusal) -> Listed
+    ensures { λ r. ⌜ r ≡ refusedListing why ⌝ }
+{
+    Listed {
+        written: 0,
+        answer: Answer::Refused(why),
+    }
+}
+
+// Writes the listing to the front of the text. What the text holds behind it stays.
+pub fn listing(code: &[u8], text: &mut [u8]) -> Listed
+    ensures { λ r. ⌜ (r ≡ listingOf (now (code .entry)) (length (now (text .entry)))) × (now (text .exit) ≡ textAfter (now (code .entry)) (now (text .entry))) ⌝ }
+{
+    if text.len() < Text::LEAST {
+        return refused(Refusal::Argument);
+    }
+    if Code::LIMIT < code.len() {
+        return refused(Refusal::TooLong);
+    }
+    let headings = put_all(text, 0, b"at\tlen\tname\tbits\tanswer\n");
+    Listed {
+        written: put_lines(code, text, headings),
+        answer: Answer::Done,
+    }
+}

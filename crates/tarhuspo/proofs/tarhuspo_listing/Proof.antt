@@ -1,0 +1,19 @@
+use Prim.Native.Nat.{ℕ}
+use borrow.Author.Needs.{needs}
+use Rattle.listing.specs.declared.Listed.{Listed}
+use Rattle.tarhuspo.specs.declared.TarhuspoListed.{TarhuspoListed}
+use Rattle.tarhuspo.proofs.Lists.{gives}
+use Rattle.tarhuspo.proofs.tarhuspo_listing.Statement.{statement}
+use Rattle.tarhuspo.proofs.tarhuspo_listing.Tie as tie
+
+abbrev made : Listed → ℕ → TarhuspoListed
+made r s = record { written = r .written; status = s }
+
+pub tarhuspo-listing-spec : {M : Type 1} → statement M
+tarhuspo-listing-spec =
+    tie.close
+    (tie.spec
+    (λ c κs. search needs)
+    (λ c κs. search needs)
+    (λ c. search needs)
+    (λ c. search (needs, gives (λ (r : Listed). r .answer) made) depth 12))
