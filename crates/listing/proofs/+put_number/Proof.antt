@@ -24,25 +24,25 @@ below t = and 1 put-number-kinds.ps (falls 1 put-number-kinds.ps _<_ μ t) put-n
 put-requires : (t : ℕ) → lts.Need-put-requires (put.Asked, put.Learnt, below t, put-number.Post) (at t) put-number.Post
 put-requires t c κs =
     let s = c .before .before .before in
-    digit-fits (s .args .text .now) (s .args .at) (s .args .number) (s .pre .1) (c .before .if1 .taken)
+    digit-fits (s .args .text .now) (s .args .at) (s .args .number) (s .pre .1) (omega (arith, c .before .if1 .taken))
 
 returns : (t : ℕ) → lts.Need-returns (put.Asked, put.Learnt, below t, put-number.Post) (at t) put-number.Post
 returns t c =
     let i = c .before .before .before .before in
     let s = i .before .before in
-    digit-put (s .args .text .now) (s .args .at) (s .args .number) (s .pre .1) (i .if1 .taken) _ _ (c .before .before .put .ensures)
+    digit-put (s .args .text .now) (s .args .at) (s .args .number) (s .pre .1) (omega (arith, i .if1 .taken)) _ _ (c .before .before .put .ensures)
 
 put-number-requires : (t : ℕ) → lts.Need-put-number-requires (put.Asked, put.Learnt, below t, put-number.Post) (at t) put-number.Post
 put-number-requires t c κs =
     let s = c .before .before .before in
-    (omega (arith, c .before .if1 .left, s .pre .0), tenth-fits (s .args .text .now) (s .args .at) (s .args .number) (s .pre .1) (c .before .if1 .left))
+    (omega (arith, c .before .if1 .left, s .pre .0), tenth-fits (s .args .text .now) (s .args .at) (s .args .number) (s .pre .1) (omega (arith, c .before .if1 .left)))
 
 put-requires-2 : (t : ℕ) → lts.Need-put-requires-2 (put.Asked, put.Learnt, below t, put-number.Post) (at t) put-number.Post
 put-requires-2 t c κs =
     let n = c .before .before .before in
     let i = n .before .before in
     let s = i .before .before in
-    last-fits (s .args .text .now) (s .args .at) (s .args .number) (s .pre .1) (i .if1 .left) _ _ (n .put-number .ensures)
+    last-fits (s .args .text .now) (s .args .at) (s .args .number) (s .pre .1) (omega (arith, i .if1 .left)) _ _ (n .put-number .ensures)
 
 returns-2 : (t : ℕ) → lts.Need-returns-2 (put.Asked, put.Learnt, below t, put-number.Post) (at t) put-number.Post
 returns-2 t c =
@@ -50,7 +50,7 @@ returns-2 t c =
     let n = p .before .before .before .before in
     let i = n .before .before in
     let s = i .before .before in
-    last-put (s .args .text .now) (s .args .at) (s .args .number) (s .pre .1) (i .if1 .left) _ _ (n .put-number .ensures) _ _ (p .put2 .ensures)
+    last-put (s .args .text .now) (s .args .at) (s .args .number) (s .pre .1) (omega (arith, i .if1 .left)) _ _ (n .put-number .ensures) _ _ (p .put2 .ensures)
 
 pub +put-number-spec : {M : Type 1} → statement M
 +put-number-spec =

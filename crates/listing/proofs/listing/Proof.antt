@@ -1,3 +1,4 @@
+use native.Mathlib.Omega.{arith}
 use borrow.Author.Needs.{needs}
 use Rattle.listing.proofs.Order.{too-small, too-long, lines-fit, listed}
 use Rattle.listing.proofs.listing.Statement.{statement}
@@ -14,20 +15,20 @@ returns : tie.Need-returns
 returns c =
     let i = c .before in
     let s = i .before .before .before in
-    too-small (s .args .code .now) (s .args .text .now) _ (i .if1 .taken) (c .refused .ensures)
+    too-small (s .args .code .now) (s .args .text .now) _ (omega (arith, i .if1 .taken)) (c .refused .ensures)
 
 returns-2 : tie.Need-returns-2
 returns-2 c =
     let i = c .before in
     let s = start (i .before) in
-    too-long (s .args .code .now) (s .args .text .now) (i .before .if1 .left) _ (i .if2 .taken) (c .refused2 .ensures)
+    too-long (s .args .code .now) (s .args .text .now) (omega (arith, i .before .if1 .left)) _ (i .if2 .taken) (c .refused2 .ensures)
 
 put-lines-requires : tie.Need-put-lines-requires
 put-lines-requires c κs =
     let p = c .before .before .before in
     let i = passed p in
     let s = start (i .before) in
-    lines-fit (s .args .code .now) (s .args .text .now) (i .before .if1 .left) (i .if2 .left) _ _ (p .put-all .ensures)
+    lines-fit (s .args .code .now) (s .args .text .now) (omega (arith, i .before .if1 .left)) (i .if2 .left) _ _ (p .put-all .ensures)
 
 returns-3 : tie.Need-returns-3
 returns-3 c =
@@ -35,7 +36,7 @@ returns-3 c =
     let p = q .before .before .before .before in
     let i = passed p in
     let s = start (i .before) in
-    listed (s .args .code .now) (s .args .text .now) (i .before .if1 .left) (i .if2 .left) _ _ (p .put-all .ensures) _ _ (q .put-lines .ensures)
+    listed (s .args .code .now) (s .args .text .now) (omega (arith, i .before .if1 .left)) (i .if2 .left) _ _ (p .put-all .ensures) _ _ (q .put-lines .ensures)
 
 pub listing-spec : {M : Type 1} → statement M
 listing-spec =

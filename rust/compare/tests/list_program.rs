@@ -1,0 +1,85 @@
+//! The proved program `list`, run as a user would: bytes in, text out.
+
+use std::io::Write;
+use std::path::{Path, PathBuf};
+use std::process::{Command, Output, Stdio};
+
+const HEADINGS: &str = "at\tlen\tname\tbits\tanswer\n";
+/// VUNPCKLPS xmm1, xmm2, xmm3: the shortest kind of instruction.
+const SHORTEST: [u8; 4] = [0xC5, 0xE8, 0x14, 0xCB];
+/// VPSHUFD zmm1, [rsp + disp32]{1to16}, imm8: the longest kind.
+const LONGEST: [u8; 12] = [0x62, 0xF1, 0x7D, 0x58, 0x70, 0x8C, 0x24, 1, 2, 3, 4, 9];
+const LIMIT: usize = 4_096;
+
+/// Proves and compiles the program. That is quick if nothing has changed since it was last proved.
+fn program() -> PathBuf {
+    let top = Path::new(env!("CARGO_MANIFEST_DIR")).join("../..");
+    let proved = Command::new("rt")
+        .args(["check", "list"])
+        .current_dir(&top)
+        .output()
+        .expect("`rt` of the Rattle kit on the PATH");
+    let said = String::from_utf8_lossy(&proved.stdout);
+    assert!(proved.status.success(), "`rt check list` failed:\n{said}");
+    top.join("target/bin/list")
+}
+
+fn run(program: &Path, input: &[u8]) -> Output {
+    let mut child = Command::new(program)
+        .stdin(Stdio::piped())
+        .stdout(Stdio::piped())
+        .stderr(Stdio::piped())
+        .spawn()
+        .expect("the program starts");
+    let mut pipe = child.stdin.take().expect("its standard input is a pipe");
+    // All inputs here fit into a pipe, so that this does not wait for the program, which stops
+    // reading where a list is too long.
+    let written = pipe.write_all(input);
+    assert!(written.is_ok() || input.len() > LIMIT, "{written:?}");
+    drop(pipe);
+    child.wait_with_output().expect("it ends")
+}
+
+fn check(program: &Path, input: &[u8], text: &str) {
+    let output = run(program, input);
+    assert!(output.status.success(), "{:?}", output.status);
+    assert_eq!(String::from_utf8_lossy(&output.stdout), text);
+    assert_eq!(output.stderr, b"");
+}
+
+fn lines_of(count: usize) -> String {
+    let places = (0..count).map(|i| i * SHORTEST.len());
+    places
+        .map(|place| format!("{place}\t4\tVUNPCKLPS\t128\t0\n"))
+        .collect()
+}
+
+#[test]
+fn program_prints_listings() {
+    let program = &program();
+
+    // Document 01's example: a whole instruction, and one that the input ends in.
+    let example = [0xC5, 0xF9, 0x70, 0xCA, 0x1B, 0xC5, 0xF9, 0x70];
+    let lines = "0\t5\tVPSHUFD\t128\t0\n5\t0\t-\t0\t2\n";
+    check(program, &example, &format!("{HEADINGS}{lines}"));
+    check(program, &[], HEADINGS);
+
+    for length in 1..LONGEST.len() {
+        let text = format!("{HEADINGS}0\t0\t-\t0\t2\n");
+        check(program, &LONGEST[..length], &text);
+    }
+    let text = format!("{HEADINGS}0\t12\tVPSHUFD\t512\t0\n");
+    check(program, &LONGEST, &text);
+
+    let full = SHORTEST.repeat(LIMIT / SHORTEST.len());
+    assert_eq!(full.len(), LIMIT);
+    check(program, &full, &format!("{HEADINGS}{}", lines_of(1_024)));
+    let cut = [&full[..LIMIT - 4], &LONGEST[..4]].concat();
+    let text = format!("{HEADINGS}{}4092\t0\t-\t0\t2\n", lines_of(1_023));
+    check(program, &cut, &text);
+
+    for more in [1, 2, 4, LIMIT, 60_000] {
+        let long = [&full[..], &vec![0xC5; more]].concat();
+        check(program, &long, "");
+    }
+}
