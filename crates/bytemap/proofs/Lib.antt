@@ -1,5 +1,4 @@
 -- Lemmas that the proofs of byte maps hand to `search` or cite.
-mod Answers
 mod Rules
 pub mod Laws
 pub mod Acceptance
@@ -7,3 +6,4 @@ pub mod Lists
 mod Building
 mod Fine
 mod Scanning
+mod Storing

@@ -3,13 +3,14 @@ ghost use mathlib.Core.Path.{_≡_};
 ghost use mathlib.Core.List.{[]};
 ghost use Prim.Native.Nat.{_%_, _≤_};
 ghost use Rattle.seq.specs.Tabulate.{tabulate};
+ghost use lib.Dec.{eqb};
 ghost use lib.ListN.{length, getD};
 ghost use Rattle.seq.specs.Choice.{both};
 ghost use Rattle.isa.specs.Kinds.{registers, fileSize, mapEntries, zeroEntry, codeLimit};
 ghost use Rattle.moves.specs.Pick.{moveOf, immediateByte};
 ghost use Rattle.moves.specs.Moved.{registerAt, thirdPart, repeated, controlBy, placed};
 ghost use Rattle.moves.specs.Mappable.{byImmediate, inRegister, mappable};
-ghost use Rattle.bytemap.specs.Build.{buildSplit, scannedOf, identity, movedMap, mapOf, refusedBuild, buildOf, mapOnAnswer, mapBuilt};
+ghost use Rattle.bytemap.specs.Build.{buildSplit, scannedOf, identity, movedMap, mapOf, rightSizes, refusedBuild, buildOf, mapOnAnswer, mapBuilt};
 ghost use Rattle.bytemap.specs.Inner.{refusedAt, entryIn};
 ghost use Rattle.bytemap.specs.ByteMap.{fine, applied, composed, applyOf, fileApplied, composeOf, mapComposed};
 use decode::instruction::Decoded;
@@ -70,22 +71,28 @@ fn move_bytes(map: &[u16], old: &[u8], file: &mut [u8])
     }
 }
 
+fn apply_sizes(map: usize, file: usize) -> bool
+    ensures { λ r. ⌜ r ≡ both (eqb map mapEntries) (eqb file fileSize) ⌝ }
+{
+    if map == ByteMap::ENTRIES {
+        return file == RegisterFile::SIZE;
+    }
+    false
+}
+
 // Replaces each byte of a file by the one that the map names.
 pub fn apply(map: &[u16], file: &mut [u8]) -> Answer
     ensures { λ r. ⌜ (r ≡ applyOf (now (map .entry)) (length (now (file .entry)))) × (now (file .exit) ≡ fileApplied (now (map .entry)) (now (file .entry))) ⌝ }
 {
-    if map.len() != ByteMap::ENTRIES {
-        return Answer::Refused(Refusal::Argument);
+    if apply_sizes(map.len(), file.len()) {
+        if is_fine(map) {
+            let old = copy_of(file);
+            move_bytes(map, &old, file);
+            return Answer::Done;
+        }
+        return Answer::Refused(Refusal::BadEntry);
     }
-    if file.len() != RegisterFile::SIZE {
-        return Answer::Refused(Refusal::Argument);
-    }
-    if is_fine(map) {
-        let old = copy_of(file);
-        move_bytes(map, &old, file);
-        return Answer::Done;
-    }
-    Answer::Refused(Refusal::BadEntry)
+    Answer::Refused(Refusal::Argument)
 }
 
 fn move_entries(first: &[u16], second: &[u16], out: &mut [u16])
@@ -107,24 +114,29 @@ fn both_fine(first: &[u16], second: &[u16]) -> bool
     }
 }
 
+fn compose_sizes(first: usize, second: usize, out: usize) -> bool
+    ensures { λ r. ⌜ r ≡ both (eqb first mapEntries) (both (eqb second mapEntries) (eqb out mapEntries)) ⌝ }
+{
+    if first == ByteMap::ENTRIES {
+        if second == ByteMap::ENTRIES {
+            return out == ByteMap::ENTRIES;
+        }
+    }
+    false
+}
+
 // The map of the first map's moves and then the second's. Whatever out held before does not count.
 pub fn compose(first: &[u16], second: &[u16], out: &mut [u16]) -> Answer
     ensures { λ r. ⌜ (r ≡ composeOf (now (first .entry)) (now (second .entry)) (length (now (out .entry)))) × (now (out .exit) ≡ mapComposed (now (first .entry)) (now (second .entry)) (now (out .entry))) ⌝ }
 {
-    if first.len() != ByteMap::ENTRIES {
-        return Answer::Refused(Refusal::Argument);
+    if compose_sizes(first.len(), second.len(), out.len()) {
+        if both_fine(first, second) {
+            move_entries(first, second, out);
+            return Answer::Done;
+        }
+        return Answer::Refused(Refusal::BadEntry);
     }
-    if second.len() != ByteMap::ENTRIES {
-        return Answer::Refused(Refusal::Argument);
-    }
-    if out.len() != ByteMap::ENTRIES {
-        return Answer::Refused(Refusal::Argument);
-    }
-    if both_fine(first, second) {
-        move_entries(first, second, out);
-        return Answer::Done;
-    }
-    Answer::Refused(Refusal::BadEntry)
+    Answer::Refused(Refusal::Argument)
 }
 
 pub struct Built {
@@ -337,17 +349,22 @@ fn refused_build(why: Refusal) -> Built
     }
 }
 
+fn build_sizes(masks: usize, map: usize, features: Features) -> bool
+    ensures { λ r. ⌜ r ≡ rightSizes masks map (features .0) ⌝ }
+{
+    if masks == Mask::COUNT as usize {
+        if map == ByteMap::ENTRIES {
+            return features.known();
+        }
+    }
+    false
+}
+
 // Builds the map of a list, or says which step has none and changes no entry.
 pub fn build(code: &[u8], masks: &[u64], features: Features, map: &mut [u16]) -> Built
     ensures { λ r. ⌜ (r ≡ buildOf (now (code .entry)) (length (now (masks .entry))) (features .0) (length (now (map .entry)))) × (now (map .exit) ≡ mapBuilt (now (code .entry)) (now (masks .entry)) (features .0) (now (map .entry))) ⌝ }
 {
-    if masks.len() != Mask::COUNT as usize {
-        return refused_build(Refusal::Argument);
-    }
-    if map.len() != ByteMap::ENTRIES {
-        return refused_build(Refusal::Argument);
-    }
-    if features.known() {
+    if build_sizes(masks.len(), map.len(), features) {
         if Code::LIMIT < code.len() {
             return refused_build(Refusal::TooLong);
         }

@@ -3,4 +3,4 @@ mod Puts
 mod Numbers
 mod Lines
 pub mod Bounds
-mod Order
+mod Whole

@@ -3,4 +3,4 @@ mod Going
 pub mod Splits
 pub mod Rests
 pub mod Laws
-mod Order
+pub mod Order

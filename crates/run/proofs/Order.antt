@@ -1,57 +1,39 @@
--- The order of a run's answers: sizes and features, then the list's length, then the steps. A refusal before the steps keeps the file.
-use Prim.Native.Nat.{ℕ, _<_, _≤_}
-use mathlib.Core.Path.{_≡_, _∙_, sym}
+-- The order of answers that runs share with byte maps and listings: the sizes and features, then one more test, then the work. A refusal keeps what was
+-- there.
+use Prim.Native.Nat.{ℕ}
+use mathlib.Core.Path.{_≡_, refl}
 use mathlib.Core.Bool.{Bool, true, false}
-use mathlib.Core.List.{List}
-use lib.ListN.{length}
-use borrow.Author.Tests.{eq-eqb, ne-eqb, le-leb, lt-leb}
-use Rattle.isa.specs.Kinds.{fileSize, maskCount, codeLimit}
-use Rattle.isa.specs.Features.{featuresKnown}
-use Rattle.isa.specs.declared.refusal.Refusal.the-variants.{Argument, TooLong}
-use Rattle.run.specs.Run.{steppedRun, steppedFile, refusedRun, runOf, fileAfterRun}
-use Rattle.run.specs.declared.Ran.{Ran}
+use native.Mathlib.Omega.{arith}
+use Rattle.seq.specs.Choice.{if_then_else_, both}
 
-module _ (code file masks : List ℕ) (features budget : ℕ) where
-  abbrev Gives : Ran → List ℕ → Type 0
-  Gives r after = (r ≡ runOf code (length file) (length masks) features budget) × (after ≡ fileAfterRun code masks features budget file)
+-- the tests, what each answers where it fails, and what there is in a buffer
+pub record Order (A B : Type 0) : Type 0 where
+  pub sizes : Bool
+  pub unsized : A
+  pub test : Bool
+  pub failed : A
+  pub done : A
+  pub old : B
+  pub new : B
 
-  module _ (r : Ran) where
-    pub file-wrong : (length file ≡ fileSize → ⊥) → r ≡ refusedRun Argument → Gives r file
-    unfolding runOf fileAfterRun
-    file-wrong h e = let t = ne-eqb (length file) fileSize h in (rw t e, rw t)
+module _ {A B : Type 0} (o : Order A B) where
+  abbrev Gives : A → B → Type 0
+  Gives r after = (r ≡ (if o .sizes then (if o .test then o .done else o .failed) else o .unsized)) × (after ≡ (if o .sizes then (if o .test then o .new else o .old) else o .old))
 
-    module _ (pf : length file ≡ fileSize) where
-      pub masks-wrong : (length masks ≡ maskCount → ⊥) → r ≡ refusedRun Argument → Gives r file
-      unfolding runOf fileAfterRun
-      masks-wrong h e =
-          let t = eq-eqb (length file) fileSize pf in
-          let u = ne-eqb (length masks) maskCount h in
-          (rw (t, u) e, rw (t, u))
+  pub wrong-sizes : o .sizes ≡ false → (r : A) → r ≡ o .unsized → Gives r (o .old)
+  wrong-sizes h r e = (rw h e, rw h)
 
-      module _ (pm : length masks ≡ maskCount) (k : Bool) (pk : k ≡ featuresKnown features) where
-        pub features-wrong : k ≡ false → r ≡ refusedRun Argument → Gives r file
-        unfolding runOf fileAfterRun
-        features-wrong h e =
-            let t = eq-eqb (length file) fileSize pf in
-            let u = eq-eqb (length masks) maskCount pm in
-            let v = sym pk ∙ h in
-            (rw (t, u, v) e, rw (t, u, v))
+  module _ (h : o .sizes ≡ true) where
+    pub test-fails : o .test ≡ false → (r : A) → r ≡ o .failed → Gives r (o .old)
+    test-fails t r e = (rw (h, t) e, rw (h, t))
 
-        module _ (kt : k ≡ true) where
-          pub too-long : codeLimit < length code → r ≡ refusedRun TooLong → Gives r file
-          unfolding runOf fileAfterRun
-          too-long h e =
-              let t = eq-eqb (length file) fileSize pf in
-              let u = eq-eqb (length masks) maskCount pm in
-              let v = sym pk ∙ kt in
-              let w = lt-leb (length code) codeLimit h in
-              (rw (t, u, v, w) e, rw (t, u, v, w))
+    pub all-pass : o .test ≡ true → (r : A) (after : B) → (r ≡ o .done) × (after ≡ o .new) → Gives r after
+    all-pass t r after e = (rw (h, t) (e .0), rw (h, t) (e .1))
 
-          pub stepped : length code ≤ codeLimit → (after : List ℕ) → (r ≡ steppedRun code features budget) × (after ≡ steppedFile code masks features budget file) → Gives r after
-          unfolding runOf fileAfterRun
-          stepped h after e =
-              let t = eq-eqb (length file) fileSize pf in
-              let u = eq-eqb (length masks) maskCount pm in
-              let v = sym pk ∙ kt in
-              let w = le-leb (length code) codeLimit h in
-              (rw (t, u, v, w) (e .0), rw (t, u, v, w) (e .1))
+-- both tests passed
+pub both-true : (a b : Bool) → both a b ≡ true → (a ≡ true) × (b ≡ true)
+both-true true b e = (refl, e)
+both-true false b e = (e, absurd (no-false e))
+  where
+    no-false : false ≡ true → ⊥
+    no-false q = let z : _≡_ {A = ℕ} 0 1 = cc in omega arith

@@ -2,7 +2,10 @@
 ghost use mathlib.Core.Path.{_≡_};
 ghost use Prim.Native.Nat.{_≤_};
 ghost use lib.ListN.{length};
+ghost use Rattle.seq.specs.Choice.{both};
 ghost use Rattle.isa.specs.Kinds.{fileSize, maskCount, codeLimit};
+ghost use Rattle.isa.specs.Features.{featuresKnown};
+ghost use Rattle.step.specs.Step.{sizesRight};
 ghost use Rattle.run.specs.Run.{steppedRun, steppedFile, refusedRun, runOf, fileAfterRun};
 use isa::features::Features;
 use isa::kinds::Code;
@@ -71,17 +74,24 @@ fn refused(why: Refusal) -> Ran
     }
 }
 
+// Answer 1: the sizes, then the features.
+fn sizes_right(file: usize, masks: usize, features: Features) -> bool
+    ensures { λ r. ⌜ r ≡ both (sizesRight file masks) (featuresKnown (features .0)) ⌝ }
+{
+    if file != RegisterFile::SIZE {
+        return false;
+    }
+    if masks != Mask::COUNT as usize {
+        return false;
+    }
+    features.known()
+}
+
 // Carries out the list until its end, a refusal, or the budget.
 pub fn run(code: &[u8], file: &mut [u8], masks: &[u64], features: Features, budget: u64) -> Ran
     ensures { λ r. ⌜ (r ≡ runOf (now (code .entry)) (length (now (file .entry))) (length (now (masks .entry))) (features .0) budget) × (now (file .exit) ≡ fileAfterRun (now (code .entry)) (now (masks .entry)) (features .0) budget (now (file .entry))) ⌝ }
 {
-    if file.len() != RegisterFile::SIZE {
-        return refused(Refusal::Argument);
-    }
-    if masks.len() != Mask::COUNT as usize {
-        return refused(Refusal::Argument);
-    }
-    if features.known() {
+    if sizes_right(file.len(), masks.len(), features) {
         if Code::LIMIT < code.len() {
             return refused(Refusal::TooLong);
         }

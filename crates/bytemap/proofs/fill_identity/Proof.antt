@@ -1,18 +1,18 @@
-use Prim.Native.Nat.{_-_, _≤_}
-use mathlib.Core.Path.{_≡_, refl}
+use Prim.Native.Nat.{_-_}
+use mathlib.Core.Path.{refl, _∙_, sym}
 use native.Mathlib.Omega.{arith}
 use borrow.Author.Needs.{needs}
-use lib.ListN.{length, length-set}
-use Rattle.seq.proofs.Tabulate.{upto, upto-start, upto-more, upto-all}
+use Rattle.isa.specs.Kinds.{mapEntries}
 use Rattle.bytemap.specs.Build.{identity}
+use Rattle.bytemap.proofs.Storing.{Storing, starts, stores, stored}
 use Rattle.bytemap.proofs.fill_identity.Statement.{statement}
 use Rattle.bytemap.proofs.fill_identity.Tie as tie
 
 abbrev Inv-loop : tie.InvT-loop
-Inv-loop map₀ i₀ map i = (map ≡ upto map₀ 0 (λ p. p) i) × (i ≤ 2048) × (length map ≡ 2048)
+Inv-loop map₀ i₀ map i = Storing map₀ (λ p. p) mapEntries map i
 
 abbrev μ-loop : tie.MeasureT-loop
-μ-loop map₀ i₀ map i = 2048 - i
+μ-loop map₀ i₀ map i = mapEntries - i
 
 pub fill-identity-spec : {M : Type 1} → statement M
 unfolding identity
@@ -21,12 +21,12 @@ fill-identity-spec =
     (tie.spec
     Inv-loop
     μ-loop
-    (λ c. (upto-start _ _ _ _ (λ p h. absurd (omega (arith, h))), omega arith, c .pre))
+    (λ c. starts _ _ mapEntries (c .pre))
     (λ c. search needs)
     (λ c. search needs)
     (λ c. search needs)
     (λ c. search needs)
     (λ c. search needs)
-    (λ c. let l = c .before in (upto-more _ _ _ _ _ (l .loop .inv .0) refl (omega (arith, l .before .pre)) refl, omega arith, simp length-set (l .loop .inv .2)))
-    (λ c. search needs)
-    (λ c. upto-all _ _ _ _ 2048 (c .before .loop .inv .0) (c .before .before .pre) (omega arith)))
+    (λ c. let l = c .before in stores _ _ mapEntries (l .before .pre) _ _ _ (l .loop .inv) (omega arith) refl)
+    (λ c. let l = c .before in l .loop .inv .size ∙ sym (l .before .pre))
+    (λ c. let l = c .before in stored _ _ mapEntries (l .before .pre) _ _ (l .loop .inv) (omega arith)))

@@ -1,36 +1,33 @@
-use Prim.Native.Nat.{_-_, _≤_}
-use mathlib.Core.Path.{_≡_, refl, _∙_}
+use Prim.Native.Nat.{ℕ, _-_}
+use mathlib.Core.Path.{_∙_, sym}
+use mathlib.Core.List.{List}
 use native.Mathlib.Omega.{arith}
 use borrow.Author.Needs.{needs}
-use lib.ListN.{length, getD, length-set}
-use Rattle.seq.proofs.Tabulate.{upto, upto-start, upto-more, upto-all, tabulate-map}
+use lib.ListN.{getD}
+use Rattle.seq.proofs.Tabulate.{tabulate-map}
+use Rattle.isa.specs.Kinds.{mapEntries}
 use Rattle.bytemap.specs.ByteMap.{composed, readEntry}
+use Rattle.bytemap.proofs.Storing.{Storing, starts, stores, stored}
 use Rattle.bytemap.proofs.move_entries.Statement.{statement}
 use Rattle.bytemap.proofs.move_entries.Tie as tie
 
+-- element p of the result
+abbrev new : List ℕ → List ℕ → ℕ → ℕ
+new first second p = readEntry first (getD second p 0)
+
 abbrev Inv-loop : tie.InvT-loop
-Inv-loop first second out₀ i₀ out i = (out ≡ upto out₀ 0 (λ p. getD first (getD second p 0) 2048) i) × (i ≤ 2048) × (length out ≡ 2048)
+Inv-loop first second out₀ i₀ out i = Storing out₀ (new first second) mapEntries out i
 
 abbrev μ-loop : tie.MeasureT-loop
-μ-loop first second out₀ i₀ out i = 2048 - i
-
-loop-holds : tie.Need-loop-holds Inv-loop μ-loop
-loop-holds c = (upto-start _ _ _ _ (λ p h. absurd (omega (arith, h))), omega arith, c .before .before .before .pre .1)
-
-loop-again : tie.Need-loop-again Inv-loop μ-loop
-loop-again c =
-    let l = c .before .before .before in
-    (upto-more _ _ _ _ _ (l .loop .inv .0) (c .entry-at .ensures) (omega (arith, l .before .before .before .before .pre .1)) refl, omega arith, simp length-set (l .loop .inv .2))
-
-same-length : tie.Need-same-length Inv-loop μ-loop
-same-length c = search needs
+μ-loop first second out₀ i₀ out i = mapEntries - i
 
 returns : tie.Need-returns Inv-loop μ-loop
 unfolding composed
 returns c =
     let l = c .before in
     let s = l .before .before .before .before in
-    upto-all _ _ _ _ 2048 (l .loop .inv .0) (s .pre .1) (omega arith) ∙ tabulate-map (readEntry (s .args .first .now)) (s .args .second .now) 2048 0 (s .pre .0)
+    let a = s .args in
+    stored (a .out .now) (new (a .first .now) (a .second .now)) mapEntries (s .pre .1) _ _ (l .loop .inv) (omega arith) ∙ tabulate-map (readEntry (a .first .now)) (a .second .now) mapEntries 0 (s .pre .0)
 
 pub move-entries-spec : {M : Type 1} → statement M
 move-entries-spec =
@@ -38,7 +35,7 @@ move-entries-spec =
     (tie.spec
     Inv-loop
     μ-loop
-    loop-holds
+    (λ c. starts _ _ mapEntries (c .before .before .before .pre .1))
     (λ c. search needs)
     (λ c. search needs)
     (λ c. omega (arith, c .shared-slice-known3 .given (c .before .before .loop .i)))
@@ -47,6 +44,6 @@ move-entries-spec =
     (λ c. search needs)
     (λ c. search needs)
     (λ c. search needs)
-    loop-again
-    same-length
+    (λ c. let l = c .before .before .before in stores _ _ mapEntries (l .before .before .before .before .pre .1) _ _ _ (l .loop .inv) (omega arith) (c .entry-at .ensures))
+    (λ c. let l = c .before in l .loop .inv .size ∙ sym (l .before .before .before .before .pre .1))
     returns)

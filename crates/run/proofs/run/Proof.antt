@@ -1,69 +1,85 @@
+use Prim.Native.Nat.{ℕ}
+use mathlib.Core.Path.{_∙_, sym}
+use mathlib.Core.List.{List}
 use borrow.Author.Needs.{needs}
-use Rattle.run.proofs.Order.{file-wrong, masks-wrong, features-wrong, too-long, stepped}
+use borrow.Author.Tests.{eqb-true, le-leb, lt-leb}
+use lib.Dec.{eqb, leb}
+use lib.ListN.{length}
+use Rattle.seq.specs.Choice.{both}
+use Rattle.isa.specs.Kinds.{fileSize, maskCount, codeLimit}
+use Rattle.isa.specs.Features.{featuresKnown}
+use Rattle.isa.specs.declared.refusal.Refusal.the-variants.{Argument, TooLong}
+use Rattle.step.specs.Step.{sizesRight}
+use Rattle.run.specs.Run.{steppedRun, steppedFile, refusedRun, runOf, fileAfterRun}
+use Rattle.run.specs.declared.Ran.{Ran}
+use Rattle.run.proofs.Order.{Order, wrong-sizes, test-fails, all-pass, both-true}
 use Rattle.run.proofs.run.Statement.{statement}
 use Rattle.run.proofs.run.Tie as tie
 
--- the function's arguments, from the place where the first test stands
-abbrev entry : tie.After-shared-slice-known2 → tie.Start
-entry c = c .before .before .before
+abbrev order : tie.Start → Order Ran (List ℕ)
+order s =
+    let code = s .args .code .now in
+    let file = s .args .file .now in
+    let masks = s .args .masks .now in
+    let features = s .args .features .0 in
+    record {
+      sizes = both (sizesRight (length file) (length masks)) (featuresKnown features);
+      unsized = refusedRun Argument;
+      test = leb (length code) codeLimit;
+      failed = refusedRun TooLong;
+      done = steppedRun code features (s .args .budget);
+      old = file;
+      new = steppedFile code masks features (s .args .budget) file;
+    }
+
+abbrev entry : tie.After-sizes-right → tie.Start
+entry c = c .before .before .before .before
 
 returns : tie.Need-returns
+unfolding runOf fileAfterRun
 returns c =
-    let s = entry (c .before .before) in
-    file-wrong (s .args .code .now) (s .args .file .now) (s .args .masks .now) (s .args .features .0) (s .args .budget) _ (c .before .if1 .taken) (c .refused .ensures)
+    let i = c .before in
+    let t = i .before in
+    let k = t .before in
+    let s = entry k in
+    test-fails (order s) (sym (k .sizes-right .ensures) ∙ t .if1 .taken) (lt-leb (length (s .args .code .now)) codeLimit (i .if2 .taken)) _ (c .refused .ensures)
+
+run-steps-requires : tie.Need-run-steps-requires
+run-steps-requires c κs =
+    let i = c .before in
+    let t = i .before in
+    let k = t .before in
+    let s = entry k in
+    let h = both-true (sizesRight (length (s .args .file .now)) (length (s .args .masks .now))) (featuresKnown (s .args .features .0)) (sym (k .sizes-right .ensures) ∙ t .if1 .taken) in
+    let g = both-true (eqb (length (s .args .file .now)) fileSize) (eqb (length (s .args .masks .now)) maskCount) (h .0) in
+    (eqb-true _ _ (g .0), eqb-true _ _ (g .1), i .if2 .left)
 
 returns-2 : tie.Need-returns-2
+unfolding runOf fileAfterRun
 returns-2 c =
-    let e = c .before .before in
-    let s = entry (e .before) in
-    masks-wrong (s .args .code .now) (s .args .file .now) (s .args .masks .now) (s .args .features .0) (s .args .budget) _ (e .if1 .left) (c .before .if2 .taken) (c .refused2 .ensures)
+    let r = c .before .before in
+    let i = r .before .before in
+    let t = i .before in
+    let k = t .before in
+    let s = entry k in
+    all-pass (order s) (sym (k .sizes-right .ensures) ∙ t .if1 .taken) (le-leb (length (s .args .code .now)) codeLimit (i .if2 .left)) _ _ (r .run-steps .ensures)
 
 returns-3 : tie.Need-returns-3
+unfolding runOf fileAfterRun
 returns-3 c =
-    let t = c .before .before in
-    let k = t .before in
-    let f = k .before in
-    let e = f .before in
-    let s = entry (e .before) in
-    too-long (s .args .code .now) (s .args .file .now) (s .args .masks .now) (s .args .features .0) (s .args .budget) _ (e .if1 .left) (f .if2 .left) _ (k .known .ensures) (t .if3 .taken)
-    (c .before .if4 .taken) (c .refused3 .ensures)
-
-returns-4 : tie.Need-returns-4
-returns-4 c =
-    let r = c .before .before in
-    let g = r .before .before in
-    let t = g .before in
-    let k = t .before in
-    let f = k .before in
-    let e = f .before in
-    let s = entry (e .before) in
-    stepped (s .args .code .now) (s .args .file .now) (s .args .masks .now) (s .args .features .0) (s .args .budget) _ (e .if1 .left) (f .if2 .left) _ (k .known .ensures) (t .if3 .taken)
-    (g .if4 .left) _ (r .run-steps .ensures)
-
-returns-5 : tie.Need-returns-5
-returns-5 c =
-    let t = c .before in
-    let k = t .before in
-    let f = k .before in
-    let e = f .before in
-    let s = entry (e .before) in
-    features-wrong (s .args .code .now) (s .args .file .now) (s .args .masks .now) (s .args .features .0) (s .args .budget) _ (e .if1 .left) (f .if2 .left) _ (k .known .ensures) (t .if3 .left)
-    (c .refused4 .ensures)
+    let e = c .before in
+    let k = e .before in
+    wrong-sizes (order (entry k)) (sym (k .sizes-right .ensures) ∙ e .if1 .left) _ (c .refused2 .ensures)
 
 pub run-spec : {M : Type 1} → statement M
 run-spec =
     tie.close
     (tie.spec
     (λ c κs. search needs)
-    returns
-    (λ c. search needs)
     (λ c κs. search needs)
+    returns
+    run-steps-requires
+    (λ c. search needs)
     returns-2
     (λ c κs. search needs)
-    (λ c κs. search needs)
-    returns-3
-    (λ c κs. search needs)
-    (λ c. search needs)
-    returns-4
-    (λ c κs. search needs)
-    returns-5)
+    returns-3)
