@@ -2,9 +2,9 @@
 
 use crate::encoding::Prefix;
 use crate::form::Form;
+use crate::limits::features::ALL;
 use crate::lists::{List, Mix};
 use crate::random::Random;
-use tarhuspo::features::ALL;
 
 /// Why an instruction is refused.
 #[derive(Debug, Clone, Copy, PartialEq, Eq)]

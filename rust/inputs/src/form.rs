@@ -1,8 +1,8 @@
 //! Every form of accepted instruction: all that matters to a step but registers and immediate.
 
 use crate::encoding::{Prefix, Shape};
+use crate::limits::features;
 use crate::random::Random;
-use tarhuspo::features;
 
 /// A shape with its width, masking and broadcast.
 #[derive(Debug, Clone, Copy)]

@@ -24,7 +24,12 @@ impl Counts {
         self.0.iter().sum()
     }
 
-    fn merge(&mut self, other: &Counts) {
+    /// The number of cases with this status.
+    pub fn of(&self, status: u32) -> u64 {
+        self.0.get(status as usize).copied().unwrap_or(0)
+    }
+
+    pub fn merge(&mut self, other: &Counts) {
         for (count, more) in self.0.iter_mut().zip(other.0) {
             *count += more;
         }

@@ -1,7 +1,7 @@
 //! Random registers and opmasks.
 
+use crate::limits::{FILE_SIZE, MASK_COUNT};
 use crate::random::Random;
-use tarhuspo::limits::{FILE_SIZE, MASK_COUNT};
 
 /// A new register file, of the right size.
 pub fn refill_file(file: &mut Vec<u8>, random: &mut Random) {

@@ -1,0 +1,16 @@
+//! Inputs for the proved library and the independent reference, and counts of them.
+//!
+//! The generator has its own copy of the instruction table and of the prefix layouts. It shares no
+//! code with the library or the reference, so that a slip in one of the three shows.
+
+#![forbid(unsafe_code)]
+
+pub mod encoding;
+pub mod faults;
+mod fields;
+pub mod form;
+pub mod limits;
+pub mod lists;
+pub mod random;
+pub mod state;
+pub mod tally;

@@ -1,0 +1,24 @@
+//! Sizes, limits and feature bits.
+
+/// Bytes of the register file.
+pub const FILE_SIZE: usize = 2_048;
+/// Opmask registers.
+pub const MASK_COUNT: usize = 8;
+/// Most bytes of a list.
+pub const CODE_LIMIT: usize = 4_096;
+/// Entries of a byte map.
+pub const MAP_SIZE: usize = FILE_SIZE;
+/// The byte map entry for a zero byte.
+pub const MAP_ZERO: u16 = 2_048;
+/// Least bytes of the listing's text.
+pub const TEXT_SIZE: usize = 25_624;
+
+/// Feature bits.
+pub mod features {
+    pub const AVX: u32 = 1 << 0;
+    pub const AVX2: u32 = 1 << 1;
+    pub const AVX512F: u32 = 1 << 2;
+    pub const AVX512VL: u32 = 1 << 3;
+    pub const AVX512_VBMI: u32 = 1 << 4;
+    pub const ALL: u32 = 31;
+}
