@@ -1,0 +1,156 @@
+//! Inputs of decoding.
+
+use crate::digest::Digest;
+use crate::layout::Record;
+use crate::maker::Maker;
+use crate::pools::Pools;
+use crate::section::{Answer, Input, Kind};
+use inputs::faults::Fault;
+use inputs::limits::features::ALL;
+
+pub const STATUSES: [u32; 6] = [0, 1, 2, 3, 4, 5];
+
+pub struct Decode {
+    pub features: u32,
+    pub code: Vec<u8>,
+}
+
+pub const KINDS: [Kind<Decode>; 13] = [
+    ("accepted", 7_000, accepted),
+    ("bytes behind", 1_500, bytes_behind),
+    ("any features", 2_500, any_features),
+    ("features over 31", 600, wrong_features),
+    ("one bit flipped", 3_000, flipped),
+    ("one byte replaced", 1_000, replaced),
+    ("cut", 1_000, cut),
+    ("no row", 600, no_row),
+    ("reserved field", 1_000, reserved),
+    ("one bit flipped, cut", 788, flipped_and_cut),
+    ("15 bytes from a prefix", 700, behind_prefix),
+    ("any bytes", 300, any_bytes),
+    ("over 4,096 bytes", 12, past_limit),
+];
+
+impl Input for Decode {
+    fn record(&self) -> Record {
+        Record::default().u32(self.features).code(&self.code)
+    }
+
+    fn answer(&self, _: &Pools) -> Answer {
+        let d = reference::decode(&self.code, self.features);
+        let numbers = [
+            d.status,
+            d.length,
+            d.memory,
+            d.mnemonic,
+            d.bits,
+            d.evex,
+            d.destination,
+            d.first,
+            d.third,
+            d.mask,
+            d.zeroing,
+            d.broadcast,
+            d.has_immediate,
+            d.immediate,
+        ];
+        Answer {
+            status: d.status,
+            numbers: vec![d.length.into()],
+            digest: Digest::of(&numbers),
+        }
+    }
+}
+
+/// With all features.
+fn all(code: Vec<u8>) -> Decode {
+    let features = ALL;
+    Decode { features, code }
+}
+
+fn accepted(maker: &mut Maker) -> Decode {
+    all(maker.accepted())
+}
+
+fn bytes_behind(maker: &mut Maker) -> Decode {
+    let mut input = accepted(maker);
+    maker.extend(&mut input.code);
+    input
+}
+
+fn any_features(maker: &mut Maker) -> Decode {
+    Decode {
+        features: maker.features(),
+        code: maker.accepted(),
+    }
+}
+
+fn wrong_features(maker: &mut Maker) -> Decode {
+    let mut code = maker.accepted();
+    match maker.random.below(4) {
+        0 => maker.cut(&mut code),
+        1 => maker.flip(&mut code),
+        _ => {}
+    }
+    let features = maker.wrong_features();
+    Decode { features, code }
+}
+
+fn flipped(maker: &mut Maker) -> Decode {
+    let mut input = accepted(maker);
+    maker.flip(&mut input.code);
+    input
+}
+
+fn replaced(maker: &mut Maker) -> Decode {
+    let mut input = accepted(maker);
+    maker.replace(&mut input.code);
+    input
+}
+
+fn cut(maker: &mut Maker) -> Decode {
+    let mut input = any_features(maker);
+    maker.cut(&mut input.code);
+    input
+}
+
+fn no_row(maker: &mut Maker) -> Decode {
+    fault(Fault::NoRow, maker)
+}
+
+fn reserved(maker: &mut Maker) -> Decode {
+    fault(Fault::Reserved, maker)
+}
+
+fn fault(fault: Fault, maker: &mut Maker) -> Decode {
+    let features = maker.features();
+    let code = maker.fault(fault);
+    Decode { features, code }
+}
+
+fn flipped_and_cut(maker: &mut Maker) -> Decode {
+    let mut input = any_features(maker);
+    maker.flip(&mut input.code);
+    maker.cut(&mut input.code);
+    input
+}
+
+fn behind_prefix(maker: &mut Maker) -> Decode {
+    Decode {
+        features: maker.features(),
+        code: maker.behind_prefix(),
+    }
+}
+
+fn any_bytes(maker: &mut Maker) -> Decode {
+    Decode {
+        features: maker.features(),
+        code: maker.any_bytes(20),
+    }
+}
+
+fn past_limit(maker: &mut Maker) -> Decode {
+    let mut input = accepted(maker);
+    maker.extend_past_limit(&mut input.code);
+    input
+}

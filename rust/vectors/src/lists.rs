@@ -1,0 +1,285 @@
+//! Inputs of running, building a byte map and listing. They share their lists.
+
+use crate::digest::Digest;
+use crate::layout::{Record, Span, CODE_ROOM, ROOM, TEXT_MOST, TEXT_ROOM};
+use crate::maker::Maker;
+use crate::pools::{lent, old_map, Pools};
+use crate::section::{Answer, Input, Kind};
+use inputs::faults::{Fault, FEATURE_SETS};
+use inputs::limits::features::ALL;
+use inputs::limits::{CODE_LIMIT, TEXT_SIZE};
+use inputs::lists::{List, Mix};
+use inputs::random::Random;
+
+pub const RUN_STATUSES: [u32; 8] = [0, 1, 2, 3, 4, 5, 6, 8];
+pub const BUILD_STATUSES: [u32; 8] = [0, 1, 2, 3, 4, 5, 7, 8];
+pub const LISTING_STATUSES: [u32; 3] = [0, 1, 8];
+
+/// A list, and what each of the three entry points takes beside it.
+pub struct ListInput {
+    pub code: Vec<u8>,
+    pub features: u32,
+    masks: Span,
+    budget: u64,
+    file: Span,
+    map: Span,
+    text: Span,
+}
+
+pub struct Run<'a>(pub &'a ListInput);
+pub struct Build<'a>(pub &'a ListInput);
+pub struct Listing<'a>(pub &'a ListInput);
+
+pub const KINDS: [Kind<ListInput>; 16] = [
+    ("accepted", 7_028, accepted),
+    ("short bytes", 1_500, short),
+    ("no row", 1_200, no_row),
+    ("reserved field", 1_500, reserved),
+    ("missing feature", 1_500, feature),
+    ("memory operand", 1_500, memory),
+    ("control in a register", 2_000, control),
+    ("one bit flipped", 1_500, flipped),
+    ("any bytes", 200, any_bytes),
+    ("features over 31", 500, wrong_features),
+    ("sizes", 1_000, wrong_sizes),
+    ("number of opmasks", 400, wrong_masks),
+    ("200 to 1,000 bytes", 100, long),
+    ("4,096 bytes", 24, at_limit),
+    ("over 4,096 bytes", 40, past_limit),
+    ("over 4,096 bytes, sizes", 8, past_limit_wrong_sizes),
+];
+
+/// For each entry point, what no other input of it has: the record with the list.
+pub fn keys(input: &ListInput) -> Vec<Vec<u8>> {
+    let records = [
+        Run(input).record(),
+        Build(input).record(),
+        Listing(input).record(),
+    ];
+    let whole = records.map(|record| record.code(&input.code).0);
+    (0..)
+        .zip(whole)
+        .map(|(i, key)| [vec![i], key].concat())
+        .collect()
+}
+
+impl Input for Run<'_> {
+    fn record(&self) -> Record {
+        let input = self.0;
+        let record = Record::default().u32(input.features).u64(input.budget);
+        record.span(input.file).masks(input.masks)
+    }
+
+    fn answer(&self, pools: &Pools) -> Answer {
+        let input = self.0;
+        let mut file = pools.bytes(input.file.start, ROOM);
+        let ran = reference::run(
+            &input.code,
+            lent(&mut file, input.file),
+            &pools.masks(input.masks),
+            input.features,
+            input.budget,
+        );
+        Answer {
+            status: ran.status,
+            numbers: vec![ran.steps, ran.place],
+            digest: Digest::of(&file),
+        }
+    }
+}
+
+impl Input for Build<'_> {
+    fn record(&self) -> Record {
+        let input = self.0;
+        let record = Record::default().u32(input.features);
+        record.span(input.map).masks(input.masks)
+    }
+
+    fn answer(&self, pools: &Pools) -> Answer {
+        let input = self.0;
+        let mut map = old_map(input.map.start);
+        let built = reference::build(
+            &input.code,
+            &pools.masks(input.masks),
+            input.features,
+            lent(&mut map, input.map),
+        );
+        Answer {
+            status: built.status,
+            numbers: vec![built.place],
+            digest: Digest::of(&map),
+        }
+    }
+}
+
+impl Input for Listing<'_> {
+    fn record(&self) -> Record {
+        Record::default().span(self.0.text)
+    }
+
+    fn answer(&self, pools: &Pools) -> Answer {
+        let input = self.0;
+        let mut text = pools.bytes(input.text.start, TEXT_ROOM);
+        let listed = reference::listing(&input.code, lent(&mut text, input.text));
+        Answer {
+            status: listed.status,
+            numbers: vec![listed.written],
+            digest: Digest::of(&text),
+        }
+    }
+}
+
+impl ListInput {
+    /// Right sizes, and a budget that now and then ends the run before the list does.
+    fn new(code: Vec<u8>, features: u32, maker: &mut Maker) -> ListInput {
+        let steps = code.len() / 4 + 2;
+        let budget = match maker.random.below(6) {
+            0 | 1 => maker.random.below(steps) as u64,
+            2 | 3 => 1_024,
+            4 => u64::MAX,
+            _ => maker.random.number(),
+        };
+        let size = TEXT_SIZE + maker.random.pick(&[0, 0, 1, TEXT_MOST - TEXT_SIZE]);
+        ListInput {
+            code,
+            features,
+            masks: maker.masks(),
+            budget,
+            file: maker.file(),
+            map: maker.file(),
+            text: maker.span(size),
+        }
+    }
+}
+
+fn features(random: &mut Random) -> u32 {
+    let some = random.pick(&FEATURE_SETS);
+    random.pick(&[ALL, some])
+}
+
+/// Instructions that run and byte map accept, mostly a few.
+fn list(features: u32, random: &mut Random) -> List {
+    let most = random.pick(&[3, 6, 12]);
+    let count = random.below(most + 1);
+    Mix::mappable(features).list(count, random)
+}
+
+fn accepted(maker: &mut Maker) -> ListInput {
+    let features = features(&mut maker.random);
+    let list = list(features, &mut maker.random);
+    ListInput::new(list.code, features, maker)
+}
+
+fn short(maker: &mut Maker) -> ListInput {
+    with_fault(Fault::Short, maker)
+}
+
+fn no_row(maker: &mut Maker) -> ListInput {
+    with_fault(Fault::NoRow, maker)
+}
+
+fn reserved(maker: &mut Maker) -> ListInput {
+    with_fault(Fault::Reserved, maker)
+}
+
+fn feature(maker: &mut Maker) -> ListInput {
+    with_fault(Fault::Feature, maker)
+}
+
+fn memory(maker: &mut Maker) -> ListInput {
+    with_fault(Fault::Memory, maker)
+}
+
+fn control(maker: &mut Maker) -> ListInput {
+    with_fault(Fault::Control, maker)
+}
+
+/// A list with one bad instruction anywhere in it.
+fn with_fault(fault: Fault, maker: &mut Maker) -> ListInput {
+    let random = &mut maker.random;
+    let (features, bad) = loop {
+        let features = features(random);
+        if let Some(bad) = fault.encode(features, random) {
+            break (features, bad);
+        }
+    };
+    let list = list(features, random);
+    let position = random.below(list.count() + 1);
+    let code = fault.insert(&list, position, &bad);
+    ListInput::new(code, features, maker)
+}
+
+fn flipped(maker: &mut Maker) -> ListInput {
+    let mut input = accepted(maker);
+    if !input.code.is_empty() {
+        maker.flip(&mut input.code);
+    }
+    input
+}
+
+fn any_bytes(maker: &mut Maker) -> ListInput {
+    let code = maker.any_bytes(40);
+    let features = maker.features();
+    ListInput::new(code, features, maker)
+}
+
+fn wrong_features(maker: &mut Maker) -> ListInput {
+    let features = maker.wrong_features();
+    let input = accepted(maker);
+    ListInput { features, ..input }
+}
+
+fn wrong_sizes(maker: &mut Maker) -> ListInput {
+    let input = accepted(maker);
+    with_wrong_sizes(input, maker)
+}
+
+fn with_wrong_sizes(input: ListInput, maker: &mut Maker) -> ListInput {
+    let below = maker.random.below(TEXT_SIZE);
+    let text = maker.random.pick(&[0, TEXT_SIZE - 1, below]);
+    ListInput {
+        file: maker.wrong_file(),
+        map: maker.wrong_file(),
+        text: maker.span(text),
+        ..input
+    }
+}
+
+fn wrong_masks(maker: &mut Maker) -> ListInput {
+    let masks = maker.wrong_masks();
+    let input = accepted(maker);
+    ListInput { masks, ..input }
+}
+
+fn long(maker: &mut Maker) -> ListInput {
+    let length = 200 + maker.random.below(801);
+    of_length(length, maker)
+}
+
+fn of_length(length: usize, maker: &mut Maker) -> ListInput {
+    let list = Mix::mappable(ALL).list_of_length(length, &mut maker.random);
+    ListInput::new(list.code, ALL, maker)
+}
+
+/// Every other list has as many instructions as there can be, and so the longest listing.
+fn at_limit(maker: &mut Maker) -> ListInput {
+    if maker.random.flag() {
+        return of_length(CODE_LIMIT, maker);
+    }
+    let random = &mut maker.random;
+    // vunpcklps of xmm0 to xmm15, xmm0 to xmm15 and xmm0 to xmm7
+    let mut step = || [0xC5, random.bits(5) << 3, 0x14, 0xC0 | random.bits(6)];
+    let code: Vec<_> = (0..CODE_LIMIT / 4).flat_map(|_| step()).collect();
+    ListInput::new(code, ALL, maker)
+}
+
+fn past_limit(maker: &mut Maker) -> ListInput {
+    let longest = maker.random.pick(&[1, 1, 16, CODE_ROOM - CODE_LIMIT]);
+    let length = CODE_LIMIT + 1 + maker.random.below(longest);
+    of_length(length, maker)
+}
+
+fn past_limit_wrong_sizes(maker: &mut Maker) -> ListInput {
+    let input = past_limit(maker);
+    with_wrong_sizes(input, maker)
+}

@@ -1,0 +1,126 @@
+//! Random codes, features and sizes, right ones and wrong ones.
+
+use crate::layout::{Span, CODE_ROOM, MASKS_ROOM, MOST};
+use inputs::faults::Fault;
+use inputs::form::Form;
+use inputs::limits::features::ALL;
+use inputs::limits::{CODE_LIMIT, FILE_SIZE, MASK_COUNT};
+use inputs::random::Random;
+
+pub struct Maker {
+    pub random: Random,
+    forms: Vec<Form>,
+}
+
+impl Maker {
+    pub fn new(seed: u64) -> Maker {
+        Maker {
+            random: Random::new(seed),
+            forms: Form::all(),
+        }
+    }
+
+    /// An instruction that all features together accept.
+    pub fn accepted(&mut self) -> Vec<u8> {
+        let form = self.random.pick(&self.forms);
+        form.encode(&mut self.random)
+    }
+
+    pub fn flip(&mut self, code: &mut [u8]) {
+        let bit = self.random.below(8 * code.len());
+        code[bit / 8] ^= 1 << (bit % 8);
+    }
+
+    pub fn replace(&mut self, code: &mut [u8]) {
+        let at = self.random.below(code.len());
+        code[at] = self.random.byte();
+    }
+
+    pub fn cut(&mut self, code: &mut Vec<u8>) {
+        code.truncate(self.random.below(code.len()));
+    }
+
+    /// Puts up to 16 more bytes behind the code.
+    pub fn extend(&mut self, code: &mut Vec<u8>) {
+        let more = 1 + self.random.below(16);
+        code.extend(self.random.bytes(more));
+    }
+
+    /// Puts so many bytes behind the code that a list would be too long.
+    pub fn extend_past_limit(&mut self, code: &mut Vec<u8>) {
+        let length = CODE_LIMIT + 1 + self.random.below(CODE_ROOM - CODE_LIMIT);
+        code.extend(self.random.bytes(length - code.len()));
+    }
+
+    /// An encoding with a fault that all features together can have; else no bytes.
+    pub fn fault(&mut self, fault: Fault) -> Vec<u8> {
+        fault.encode(ALL, &mut self.random).unwrap_or_default()
+    }
+
+    pub fn behind_prefix(&mut self) -> Vec<u8> {
+        let mut code = self.random.bytes(15);
+        code[0] = self.random.pick(&[0xC4, 0xC5, 0x62]);
+        code
+    }
+
+    pub fn any_bytes(&mut self, most: usize) -> Vec<u8> {
+        let count = self.random.below(most + 1);
+        self.random.bytes(count)
+    }
+
+    /// Features that there are.
+    pub fn features(&mut self) -> u32 {
+        self.random.below(32) as u32
+    }
+
+    /// A feature number over 31.
+    pub fn wrong_features(&mut self) -> u32 {
+        match self.random.below(4) {
+            0 => ALL + 1 + self.random.below(8) as u32,
+            1 => 1 << (5 + self.random.below(27)),
+            2 => u32::MAX - self.random.below(32) as u32,
+            _ => (self.random.number() as u32).max(ALL + 1),
+        }
+    }
+
+    /// The start of a part of a pool, any of the pool's 65,536 places.
+    pub fn start(&mut self) -> usize {
+        self.random.below(1 << 16)
+    }
+
+    /// A part of a pool with `length` elements.
+    pub fn span(&mut self, length: usize) -> Span {
+        Span::new(self.start(), length)
+    }
+
+    /// A register file, or a map to be written.
+    pub fn file(&mut self) -> Span {
+        self.span(FILE_SIZE)
+    }
+
+    pub fn wrong_file(&mut self) -> Span {
+        let length = self.wrong_size(FILE_SIZE, MOST);
+        self.span(length)
+    }
+
+    pub fn masks(&mut self) -> Span {
+        Span::new(self.random.below(256), MASK_COUNT)
+    }
+
+    pub fn wrong_masks(&mut self) -> Span {
+        let count = self.wrong_size(MASK_COUNT, MASKS_ROOM);
+        Span::new(self.random.below(256), count)
+    }
+
+    /// A size up to `most`, but not the right one.
+    pub fn wrong_size(&mut self, right: usize, most: usize) -> usize {
+        let random = &mut self.random;
+        match random.below(6) {
+            0 => right - 1,
+            1 => right + 1,
+            2 => random.pick(&[0, 1, right / 2, most]),
+            3 => right + 1 + random.below(most - right),
+            _ => random.below(right),
+        }
+    }
+}

@@ -1,0 +1,13 @@
+//! The stored vectors, and the inputs in them.
+
+mod samples;
+mod stored;
+
+use std::sync::OnceLock;
+use vectors::Vectors;
+
+/// What the reference gives today, made once for all tests.
+fn vectors() -> &'static Vectors {
+    static VECTORS: OnceLock<Vectors> = OnceLock::new();
+    VECTORS.get_or_init(Vectors::generate)
+}

@@ -1,0 +1,105 @@
+//! There are inputs enough, of every status and form, and no two are the same.
+
+use crate::vectors;
+use inputs::form::Form;
+use std::collections::BTreeSet;
+use vectors::layout::{CODE_ROOM, INPUTS};
+use vectors::lists::{Build, ListInput, Listing, Run};
+use vectors::section::{Input, Samples};
+use vectors::{decode_inputs, list_inputs, step_inputs};
+
+/// Of each status that an entry point can answer.
+const LEAST_OF_EACH: u64 = 36;
+
+#[test]
+fn every_status_has_dozens_of_inputs() {
+    let sections = &vectors().sections;
+    let names: Vec<_> = sections.iter().map(|section| section.name).collect();
+    let wanted = "decode step run build apply compose listing";
+    assert_eq!(names.join(" "), wanted);
+    for section in sections {
+        let (name, counts) = (section.name, section.counts());
+        assert!(counts.sum() >= 20_000, "{name}: {} inputs", counts.sum());
+        assert_eq!(counts.sum(), INPUTS as u64, "{name}: inputs that are read");
+        let known: u64 = section.statuses.iter().map(|&s| counts.of(s)).sum();
+        assert_eq!(
+            known,
+            counts.sum(),
+            "{name}: a status that it cannot answer"
+        );
+        for &status in section.statuses {
+            let found = counts.of(status);
+            assert!(
+                found >= LEAST_OF_EACH,
+                "{name}: {found} with status {status}"
+            );
+        }
+    }
+}
+
+/// What a decoding tells apart, but registers and the immediate's value.
+type Combination = [u32; 8];
+
+fn combination(code: &[u8], features: u32) -> Option<Combination> {
+    let d = reference::decode(code, features);
+    let combination = [
+        d.mnemonic,
+        d.has_immediate,
+        d.evex,
+        d.bits,
+        u32::from(d.mask != 0),
+        d.zeroing,
+        d.broadcast,
+        u32::from(d.memory != 0),
+    ];
+    (d.status == 0).then_some(combination)
+}
+
+fn expect_every_form<'a>(what: &str, codes: impl Iterator<Item = (&'a [u8], u32)>) {
+    let found: BTreeSet<_> = codes.filter_map(|(code, f)| combination(code, f)).collect();
+    let forms: BTreeSet<_> = Form::all().into_iter().map(Form::combination).collect();
+    assert_eq!(found.len(), forms.len(), "accepted forms of {what}");
+}
+
+#[test]
+fn every_form_is_decoded_and_carried_out() {
+    let samples = decode_inputs();
+    let inputs = samples.iter().flat_map(|(_, inputs)| inputs);
+    expect_every_form("decoding", inputs.map(|i| (&i.code[..], i.features)));
+    let samples = step_inputs();
+    let accepted = samples.iter().filter(|(kind, _)| *kind == "accepted");
+    let inputs = accepted.flat_map(|(_, inputs)| inputs);
+    expect_every_form("the step", inputs.map(|i| (&i.code[..], i.features)));
+}
+
+#[test]
+fn lists_are_of_every_length() {
+    let samples = list_inputs();
+    let lengths: BTreeSet<_> = all(&samples).map(|input| input.code.len()).collect();
+    for length in [0, 4, 5, 6, 7, 4_096, 4_097] {
+        assert!(lengths.contains(&length), "no list of {length} bytes");
+    }
+    assert!(lengths.iter().all(|&length| length <= CODE_ROOM));
+}
+
+fn all(samples: &Samples<ListInput>) -> impl Iterator<Item = &ListInput> {
+    samples.iter().flat_map(|(_, inputs)| inputs)
+}
+
+/// How many inputs differ from all others, by record and list.
+fn distinct<'a, I: Input>(
+    samples: &'a Samples<ListInput>,
+    entry_point: fn(&'a ListInput) -> I,
+) -> usize {
+    let whole = |input: &'a ListInput| (entry_point(input).record().0, &input.code[..]);
+    all(samples).map(whole).collect::<BTreeSet<_>>().len()
+}
+
+/// Inputs of the other entry points are told apart while they are made.
+#[test]
+fn lists_with_their_records_differ() {
+    let samples = list_inputs();
+    assert_eq!(distinct(&samples, Run), INPUTS);
+    assert_eq!(distinct(&samples, Build), INPUTS);
+    assert_eq!(distinct(&samples, Listing), INPUTS);
+}
