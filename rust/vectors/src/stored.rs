@@ -36,7 +36,7 @@ impl File {
 
     /// Says where the stored file is not this one.
     fn difference(&self, folder: &Path) -> Option<String> {
-        let name = self.path.display();
+        let name = shown(&self.path);
         let stored = match fs::read(folder.join(&self.path)) {
             Ok(stored) => stored,
             Err(e) => return Some(format!("{name} cannot be read: {e}; {AGAIN}")),
@@ -61,6 +61,11 @@ impl File {
     }
 }
 
+/// The path from the top of the repository.
+fn shown(path: &Path) -> String {
+    format!("crates/vectors/{}", path.display())
+}
+
 /// Each stored file that is missing, differs, or is one too many, in a sentence.
 pub fn differences(files: &[File], folder: &Path) -> Vec<String> {
     let mut found: Vec<_> = files.iter().filter_map(|f| f.difference(folder)).collect();
@@ -69,7 +74,7 @@ pub fn differences(files: &[File], folder: &Path) -> Vec<String> {
     for entry in entries.flatten() {
         let path = Path::new("data").join(entry.file_name());
         if !known.contains(&path) {
-            let name = path.display();
+            let name = shown(&path);
             found.push(format!("{name} is none of the files that are written"));
         }
     }
