@@ -1,9 +1,8 @@
 //! The files in the folder of the Rattle program.
 
 use std::collections::BTreeSet;
-use std::fs;
-use std::io;
 use std::path::{Path, PathBuf};
+use std::{env, fs, io};
 
 /// What writes the files again.
 const AGAIN: &str = "`cargo run --release --bin vectors` in rust/ writes it again";
@@ -14,9 +13,12 @@ pub struct File {
     contents: Vec<u8>,
 }
 
-/// The program's folder in this repository.
+/// The program's folder in this repository. Cargo says where that is when it runs a program; the
+/// path that was compiled in can be that of another checkout, if the two share a build folder.
 pub fn folder() -> PathBuf {
-    Path::new(env!("CARGO_MANIFEST_DIR")).join("../../crates/vectors")
+    let given = env::var_os("CARGO_MANIFEST_DIR");
+    let own = given.unwrap_or_else(|| env!("CARGO_MANIFEST_DIR").into());
+    Path::new(&own).join("../../crates/vectors")
 }
 
 impl File {
