@@ -23,12 +23,20 @@ const ROOM: usize = 2560;
 
 const MOST: usize = ROOM - 2 * GUARD;
 
+const TEXT_ROOM: usize = 26112;
+
+const TEXT_MOST: usize = TEXT_ROOM - 2 * GUARD;
+
 const MASKS_ROOM: usize = 16;
 
 const MEMORY_ROOM: usize = 256;
 
 fn print_file(file: &[u8; ROOM]) {
     print_digest(digest::of_bytes(file));
+}
+
+fn print_text(text: &[u8; TEXT_ROOM]) {
+    print_digest(digest::of_bytes(text));
 }
 
 fn print_map(map: &[u16; ROOM]) {
@@ -206,5 +214,21 @@ pub fn compose(record: &[u8; RECORD_ROOM], pools: &[u8; pools::SIZE]) -> bool {
     );
     print_number(status as u64);
     print_map(&out);
+    true
+}
+
+// Record: text: start u16, length u16.
+pub fn listing(record: &[u8], code: &[u8], pools: &[u8; pools::SIZE]) -> bool {
+    let size = u16_at(record, 2) as usize;
+    if size > TEXT_MOST {
+        return false;
+    }
+    let mut text = [0u8; TEXT_ROOM];
+    fill_bytes(pools, u16_at(record, 0), &mut text);
+    let end = GUARD + size;
+    let listed = tarhuspo::tarhuspo_listing(code, &mut text[GUARD..end]);
+    print_number(listed.status as u64);
+    print_number(listed.written);
+    print_text(&text);
     true
 }

@@ -23,6 +23,7 @@ enum Entry {
     Build,
     Apply,
     Compose,
+    Listing,
 }
 
 // Where the code of an input stands.
@@ -42,6 +43,7 @@ fn record_size(entry: Entry) -> usize {
         Entry::Build => 10,
         Entry::Apply => 12,
         Entry::Compose => 20,
+        Entry::Listing => 4,
     }
 }
 
@@ -53,6 +55,7 @@ fn code_of(entry: Entry) -> Code {
         Entry::Build => Code::Listed,
         Entry::Apply => Code::Absent,
         Entry::Compose => Code::Absent,
+        Entry::Listing => Code::Listed,
     }
 }
 
@@ -76,6 +79,7 @@ fn call(
         Entry::Build => calls::build(record, code, pools),
         Entry::Apply => calls::apply(record, pools),
         Entry::Compose => calls::compose(record, pools),
+        Entry::Listing => calls::listing(record, code, pools),
     }
 }
 
@@ -170,4 +174,5 @@ fn main() {
     section(Entry::Build, b"build", &pools);
     section(Entry::Apply, b"apply", &pools);
     section(Entry::Compose, b"compose", &pools);
+    section(Entry::Listing, b"listing", &pools);
 }

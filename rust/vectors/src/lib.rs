@@ -23,9 +23,6 @@ use pools::Pools;
 use section::{samples, Input, Samples, Section};
 use stored::File;
 
-/// Entry points that the program does not call yet. Nothing of them is stored.
-const NOT_CALLED: [&str; 1] = ["listing"];
-
 /// Everything that is generated.
 pub struct Vectors {
     pub files: Vec<File>,
@@ -41,11 +38,10 @@ impl Vectors {
             File::data("pools", pools.stored()),
             File::data("lists", list_data(&lists)),
         ];
-        let called = |section: &&Section| !NOT_CALLED.contains(&section.name);
-        for section in sections.iter().filter(called) {
+        for section in &sections {
             files.push(File::data(section.name, section.data.clone()));
         }
-        let text = expected_text(&pools, sections.iter().filter(called));
+        let text = expected_text(&pools, &sections);
         files.push(File::new("stdout", text.into_bytes()));
         Vectors { files, sections }
     }
@@ -105,7 +101,7 @@ fn list_data(lists: &Samples<ListInput>) -> Vec<u8> {
 }
 
 /// What the program has to write.
-fn expected_text<'a>(pools: &Pools, sections: impl Iterator<Item = &'a Section>) -> String {
+fn expected_text(pools: &Pools, sections: &[Section]) -> String {
     let mut text = format!("pools {}\n", pools.stored().len());
     for section in sections {
         text += &section.results;
