@@ -58,9 +58,26 @@ impl fmt::Display for Failure {
     }
 }
 
+/// How far an audit is.
+#[derive(Debug, Clone, Copy)]
+pub struct Progress {
+    /// Instructions compared, accepted and refused ones together.
+    pub instructions: u64,
+    pub elapsed: Duration,
+}
+
 /// Compares an engine with the processor. Without AVX nothing can be compared, and the report says
 /// so.
 pub fn audit(engine: &mut dyn Engine, options: Options) -> Result<Report, Failure> {
+    audit_watched(engine, options, &mut |_| {})
+}
+
+/// The same, and tells `watch` after every instruction how far it is.
+pub fn audit_watched(
+    engine: &mut dyn Engine,
+    options: Options,
+    watch: &mut dyn FnMut(Progress),
+) -> Result<Report, Failure> {
     let plan = Plan::new(options.capabilities);
     let mut report = Report::new(engine.name(), options.seed, options.capabilities);
     report.skipped = skipped(&plan);
@@ -80,6 +97,10 @@ pub fn audit(engine: &mut dyn Engine, options: Options) -> Result<Report, Failur
         }
         report.count(&case);
         count += 1;
+        watch(Progress {
+            instructions: count,
+            elapsed: start.elapsed(),
+        });
     }
     report.elapsed = start.elapsed();
     Ok(report)

@@ -26,7 +26,7 @@ mod report_text;
 mod shape;
 mod state;
 
-pub use audit::{audit, Failure, Limit, Options};
+pub use audit::{audit, audit_watched, Failure, Limit, Options, Progress};
 pub use detect::{Capabilities, RegisterSet};
 pub use difference::{Difference, Finding};
 pub use engine::Engine;
