@@ -126,7 +126,7 @@ impl fmt::Display for Difference {
                 hex(register)
             )?;
         }
-        write!(f, "repeat with: audit --seed {seed} --case {case}")
+        write!(f, "repeat with: tarhuspo audit --seed {seed} --case {case}")
     }
 }
 

@@ -42,7 +42,7 @@ impl Engine for Function {
     }
 }
 
-/// Every engine that the command and the tests compare with the processor.
+/// Every engine that the tests compare with the processor.
 pub fn all() -> Vec<Function> {
     vec![reference(), library()]
 }

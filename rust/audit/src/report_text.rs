@@ -59,7 +59,7 @@ fn skipped_forms(skipped: &[Skipped]) -> String {
 fn write_compared(f: &mut Formatter<'_>, report: &Report, set: RegisterSet) -> Result {
     writeln!(
         f,
-        "instructions compared: {} carried out, {} refused with #UD",
+        "steps compared: {} carried out, {} refused with #UD",
         report.steps(),
         report.undefined_cases()
     )?;

@@ -1,54 +1,76 @@
-//! The command `tarhuspo`. All decoding is the proved library's.
+//! The command `tarhuspo`. All decoding and moving is the proved library's.
 
-mod arguments;
-mod text;
+mod answer;
+mod assembler;
+mod audit;
+mod compare;
+mod decode;
+mod features;
+mod help;
+mod hex;
+mod input;
+mod list;
+mod map;
+mod options;
+mod output;
+mod places;
+mod run;
 
-use arguments::Request;
-use std::io::{self, ErrorKind, Write};
+use answer::{Answer, Failure};
+use help::Command;
+use std::ffi::OsString;
 use std::process::ExitCode;
 
-const ACCEPTED: u8 = 0;
+/// Refused by the library, or different.
 const REFUSED: u8 = 1;
+/// Bad usage, or a file that cannot be read or written.
 const USAGE: u8 = 2;
 
 fn main() -> ExitCode {
     let words: Vec<_> = std::env::args_os().skip(1).collect();
     if words.is_empty() {
-        complain(text::HELP.trim_end());
+        output::complain(help::OVERVIEW);
         return ExitCode::from(USAGE);
     }
-    match arguments::parse(&words) {
-        Ok(Request::Help) => print(text::HELP, ACCEPTED),
-        Ok(Request::Decode { code, features }) => decode(&code, features),
-        Err(expected) => {
-            complain(&format!("tarhuspo: {expected}"));
+    match answer(&words).and_then(finish) {
+        Ok(status) => status,
+        Err(Failure::Usage(expected)) => {
+            output::complain(&format!("tarhuspo: {expected}\n"));
             ExitCode::from(USAGE)
+        }
+        Err(Failure::Refused(refusal)) => {
+            output::complain(&format!("tarhuspo: {refusal}\n"));
+            ExitCode::from(REFUSED)
         }
     }
 }
 
-fn decode(code: &[u8], features: u32) -> ExitCode {
-    let decoded = tarhuspo::decode(code, features);
-    if decoded.status != 0 {
-        return print(&text::refusal(decoded.status), REFUSED);
+fn answer(words: &[OsString]) -> Result<Answer, Failure> {
+    let (first, rest) = words.split_first().ok_or_else(|| help::unknown(""))?;
+    let first = first.to_str().ok_or("expected a command in UTF-8")?;
+    if matches!(first, "--help" | "-h" | "help") {
+        return help::asked(rest);
     }
-    print(&text::accepted(&decoded), ACCEPTED)
+    let command = Command::named(first).ok_or_else(|| help::unknown(first))?;
+    if options::asks_for_help(rest) {
+        return Ok(Answer::text(command.help()));
+    }
+    (command.run)(rest)
 }
 
-/// Prints the answer, and gives the exit status. A reader that has closed the pipe has seen what it
-/// wanted, so that is no failure.
-fn print(answer: &str, status: u8) -> ExitCode {
-    let mut out = io::stdout().lock();
-    match out.write_all(answer.as_bytes()).and_then(|()| out.flush()) {
-        Err(e) if e.kind() != ErrorKind::BrokenPipe => {
-            complain(&format!("tarhuspo: cannot write the answer: {e}"));
-            ExitCode::from(USAGE)
-        }
-        _ => ExitCode::from(status),
+/// Prints the text, and only then puts the file in its place: if anything fails, a file that was
+/// there before is still there.
+fn finish(answer: Answer) -> Result<ExitCode, Failure> {
+    let file = match &answer.file {
+        Some((path, bytes)) => Some(output::prepare(path, bytes)?),
+        None => None,
+    };
+    output::print(&answer.text)?;
+    if let Some(file) = file {
+        file.put_in_place()?;
     }
-}
-
-/// Writes to standard error. If even that fails, the exit status still tells.
-fn complain(message: &str) {
-    let _ = writeln!(io::stderr(), "{message}");
+    Ok(match answer.is_refused {
+        true => ExitCode::from(REFUSED),
+        false => ExitCode::SUCCESS,
+    })
 }

@@ -1,52 +1,19 @@
-//! Drives the built command: arguments, exit status, output.
+//! `tarhuspo decode`.
 
-use std::ffi::OsString;
-use std::fs::OpenOptions;
-use std::os::unix::ffi::OsStringExt;
-use std::process::{Command, Stdio};
-
-/// Exit status, standard output and standard error.
-type Ran = (Option<i32>, String, String);
-
-fn command() -> Command {
-    Command::new(env!("CARGO_BIN_EXE_tarhuspo"))
-}
-
-fn run_command(command: &mut Command) -> Ran {
-    let output = command.output().expect("the command starts");
-    let text = |bytes| String::from_utf8(bytes).expect("the output is UTF-8");
-    (
-        output.status.code(),
-        text(output.stdout),
-        text(output.stderr),
-    )
-}
-
-fn run(arguments: &[&str]) -> Ran {
-    run_command(command().args(arguments))
-}
+use crate::tools::{assert_bad_usage, printed, run};
 
 /// The first line for bytes that are accepted.
 fn instruction(bytes: &str) -> String {
-    let (status, out, err) = run(&["decode", bytes]);
-    assert_eq!((status, err.as_str()), (Some(0), ""), "{bytes}");
-    out.lines().next().unwrap_or("").to_string()
+    let words = printed(&["decode", bytes]);
+    words.lines().next().unwrap_or("").to_string()
 }
 
+/// The refusal is what was asked for, and goes to standard output.
 fn assert_refused(arguments: &[&str], status: u32) {
     let answer = format!("refused, status {status}: {}\n", tarhuspo::describe(status));
     assert_eq!(
         run(arguments),
         (Some(1), answer, String::new()),
-        "{arguments:?}"
-    );
-}
-
-fn assert_bad_usage(arguments: &[&str], message: &str) {
-    let line = format!("tarhuspo: {message}\n");
-    assert_eq!(
-        run(arguments),
-        (Some(2), String::new(), line),
         "{arguments:?}"
     );
 }
@@ -74,7 +41,7 @@ immediate:     0x1b
 #[test]
 fn accepted_broadcast_form() {
     let expected = "\
-vpermilpd ymm17{k3}, ymm9, qword [8 bytes]{1to4}
+vpermilpd ymm17{k3}, ymm9, qword ptr [mem]{1to4}
 length:        6 bytes
 memory:        8 bytes
 encoding:      EVEX
@@ -95,18 +62,25 @@ immediate:     none
 fn each_instruction_is_written_as_an_assembler_would() {
     for (bytes, expected) in [
         ("C5 F9 70 CA 1B", "vpshufd xmm1, xmm2, 0x1b"),
-        ("C5 F9 70 44 88 10 1B", "vpshufd xmm0, [16 bytes], 0x1b"),
+        (
+            "C5 F9 70 44 88 10 1B",
+            "vpshufd xmm0, xmmword ptr [mem], 0x1b",
+        ),
         (
             "62 F1 7D 58 70 08 00",
-            "vpshufd zmm1, dword [4 bytes]{1to16}, 0x00",
+            "vpshufd zmm1, dword ptr [mem]{1to16}, 0x00",
         ),
         ("62 81 7D 48 70 CA 1B", "vpshufd zmm17, zmm26, 0x1b"),
         ("C4 E3 7D 05 CA 05", "vpermilpd ymm1, ymm2, 0x05"),
         ("C4 E2 69 0D CB", "vpermilpd xmm1, xmm2, xmm3"),
         ("62 F2 6D 48 8D CB", "vpermb zmm1, zmm2, zmm3"),
-        ("62 F2 6D 48 8D 08", "vpermb zmm1, zmm2, [64 bytes]"),
+        ("62 F2 6D 48 8D 08", "vpermb zmm1, zmm2, zmmword ptr [mem]"),
         ("C5 E8 14 CB", "vunpcklps xmm1, xmm2, xmm3"),
         ("C4 E3 6D 06 CB 88", "vperm2f128 ymm1, ymm2, ymm3, 0x88"),
+        (
+            "C4 E3 6D 06 08 31",
+            "vperm2f128 ymm1, ymm2, ymmword ptr [mem], 0x31",
+        ),
     ] {
         assert_eq!(instruction(bytes), expected, "{bytes}");
     }
@@ -153,8 +127,6 @@ fn bad_usage_is_one_line() {
     let bytes = "expected hex bytes after 'decode', as in: decode C5 F9 70 CA 1B";
     assert_bad_usage(&["decode"], bytes);
     assert_bad_usage(&["decode", "--features", "31"], bytes);
-    assert_bad_usage(&["encode"], "expected 'decode' or 'help', not 'encode'");
-    assert_bad_usage(&["help", "decode"], "expected nothing after 'help'");
     assert_bad_usage(
         &["decode", "C5F"],
         "expected pairs of hex digits, not 'C5F'",
@@ -168,7 +140,7 @@ fn bad_usage_is_one_line() {
     );
     let cut = format!("expected pairs of hex digits, not '{}..'", "5".repeat(40));
     assert_bad_usage(&["decode", &"5".repeat(41)], &cut);
-    let option = "expected hex bytes or --features, not '--feature'";
+    let option = "expected no option but --features, not '--feature'";
     assert_bad_usage(&["decode", "90", "--feature", "1"], option);
 }
 
@@ -187,64 +159,4 @@ fn bad_features_are_one_line() {
         let message = format!("expected features among {names}, not '{named}'");
         assert_bad_usage(&["decode", "90", "--features", list], &message);
     }
-}
-
-#[test]
-fn arguments_that_are_no_text_are_bad_usage() {
-    let (status, out, err) = run_command(command().arg(OsString::from_vec(vec![0xFF, 0xFE])));
-    assert_eq!((status, out.as_str()), (Some(2), ""));
-    assert_eq!(err, "tarhuspo: expected arguments in UTF-8\n");
-}
-
-#[test]
-fn help_is_printed_when_asked_for_and_when_nothing_is() {
-    let (status, help, err) = run(&["help"]);
-    assert_eq!((status, err.as_str()), (Some(0), ""));
-    assert!(help.contains("tarhuspo decode HEX.. [--features LIST|NUMBER]"));
-    for arguments in [&["--help"][..], &["-h"], &["decode", "--help"]] {
-        assert_eq!(run(arguments), (Some(0), help.clone(), String::new()));
-    }
-    assert_eq!(run(&[]), (Some(2), String::new(), help));
-}
-
-#[test]
-fn a_closed_pipe_is_no_failure() {
-    for (bytes, expected) in [("C5F970CA1B", 0), ("90", 1)] {
-        let (reader, writer) = std::io::pipe().expect("a pipe");
-        drop(reader);
-        let mut command = command();
-        command
-            .args(["decode", bytes])
-            .stdout(writer)
-            .stderr(Stdio::piped());
-        let output = command.spawn().and_then(|child| child.wait_with_output());
-        let output = output.expect("the command starts");
-        assert_eq!(
-            (output.status.code(), output.stderr),
-            (Some(expected), vec![]),
-            "{bytes}"
-        );
-    }
-}
-
-#[test]
-fn output_that_cannot_be_written_is_reported() {
-    let Ok(full) = OpenOptions::new().write(true).open("/dev/full") else {
-        println!("skipped: this system has no /dev/full");
-        return;
-    };
-    let mut command = command();
-    command
-        .args(["decode", "90"])
-        .stdout(full)
-        .stderr(Stdio::piped());
-    let output = command.spawn().and_then(|child| child.wait_with_output());
-    let output = output.expect("the command starts");
-    assert_eq!(output.status.code(), Some(2));
-    let message = String::from_utf8_lossy(&output.stderr);
-    assert!(
-        message.starts_with("tarhuspo: cannot write the answer: "),
-        "{message}"
-    );
-    assert_eq!(message.lines().count(), 1);
 }

@@ -1,30 +1,9 @@
-//! Results in words.
+//! A decoded instruction in words.
 
-use tarhuspo::{describe, mnemonic_name, Decoded};
-
-pub const HELP: &str = "\
-tarhuspo: decodes AVX permute instructions with the proved library
-
-usage:
-  tarhuspo decode HEX.. [--features LIST|NUMBER]
-  tarhuspo help
-
-decode prints the instruction that the bytes start with, or why there is none.
-  HEX          bytes as pairs of hex digits, with or without spaces and 0x
-  --features   what the processor has: names between commas out of avx, avx2,
-               avx512f, avx512vl, avx512_vbmi, or their number; all (31) if not given
-
-example: tarhuspo decode 62 F1 7D C9 70 CA 1B --features avx512f
-
-exit status: 0 accepted, 1 refused, 2 bad usage or output that cannot be written
-";
-
-pub fn refusal(status: u32) -> String {
-    format!("refused, status {status}: {}\n", describe(status))
-}
+use tarhuspo::{mnemonic_name, Decoded};
 
 /// The instruction as an assembler writes it, then each field on its own line.
-pub fn accepted(decoded: &Decoded) -> String {
+pub fn described(decoded: &Decoded) -> String {
     let mut text = instruction(decoded) + "\n";
     for (name, value) in fields(decoded) {
         let value = value.unwrap_or_else(|| "none".to_string());
@@ -69,25 +48,26 @@ fn destination(decoded: &Decoded) -> String {
     text
 }
 
+/// A register, or memory by its size: where it lies is not part of a decoding.
 fn third_operand(decoded: &Decoded) -> String {
-    let bytes = decoded.memory;
-    match (bytes, decoded.broadcast) {
+    let operand = format!("{} ptr [mem]", size(decoded.memory));
+    match (decoded.memory, decoded.broadcast) {
         (0, _) => register(decoded, decoded.third),
-        (_, 0) => format!("[{bytes} bytes]"),
-        _ => format!(
-            "{} [{bytes} bytes]{{1to{}}}",
-            element(bytes),
-            elements(decoded)
-        ),
+        (_, 0) => operand,
+        _ => format!("{operand}{{1to{}}}", elements(decoded)),
     }
 }
 
-fn element(bytes: u32) -> &'static str {
+/// What an assembler calls so many bytes of memory.
+fn size(bytes: u32) -> &'static str {
     match bytes {
         1 => "byte",
         2 => "word",
         4 => "dword",
-        _ => "qword",
+        8 => "qword",
+        16 => "xmmword",
+        32 => "ymmword",
+        _ => "zmmword",
     }
 }
 
@@ -146,6 +126,6 @@ fn masked_off(decoded: &Decoded) -> Option<String> {
 }
 
 fn broadcast(decoded: &Decoded) -> Option<String> {
-    let element = element(decoded.memory);
+    let element = size(decoded.memory);
     (decoded.broadcast != 0).then(|| format!("one {element} to {}", elements(decoded)))
 }

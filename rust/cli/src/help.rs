@@ -1,0 +1,239 @@
+//! The commands, and what each says of itself.
+
+use crate::answer::{Answer, Failure};
+use crate::options::expected;
+use crate::{audit, compare, decode, list, map, run};
+use std::ffi::OsString;
+
+pub struct Command {
+    pub name: &'static str,
+    /// Its own lines, and between them those that several commands share.
+    help: &'static [&'static str],
+    pub run: fn(&[OsString]) -> Result<Answer, Failure>,
+}
+
+pub const COMMANDS: [Command; 6] = [
+    Command {
+        name: "list",
+        help: &[LIST, CODE, LIST_END],
+        run: list::run,
+    },
+    Command {
+        name: "decode",
+        help: &[DECODE, FEATURES, DECODE_END],
+        run: decode::run,
+    },
+    Command {
+        name: "run",
+        help: &[RUN, MASKS, FEATURES, CODE, RUN_END],
+        run: run::run,
+    },
+    Command {
+        name: "map",
+        help: &[MAP, MASKS, FEATURES, CODE, MAP_END],
+        run: map::run,
+    },
+    Command {
+        name: "compare",
+        help: &[COMPARE, MASKS, FEATURES, CODE, COMPARE_END],
+        run: compare::run,
+    },
+    Command {
+        name: "audit",
+        help: &[AUDIT],
+        run: audit::run,
+    },
+];
+
+impl Command {
+    pub fn named(name: &str) -> Option<&'static Command> {
+        COMMANDS.iter().find(|command| command.name == name)
+    }
+
+    pub fn help(&self) -> String {
+        self.help.concat()
+    }
+}
+
+/// The answer to `tarhuspo help`, with or without a command.
+pub fn asked(words: &[OsString]) -> Result<Answer, Failure> {
+    let [name] = words else {
+        return match words {
+            [] => Ok(Answer::text(OVERVIEW)),
+            _ => Err("expected at most one command after 'help'".into()),
+        };
+    };
+    let name = name.to_string_lossy();
+    match Command::named(&name) {
+        Some(command) => Ok(Answer::text(command.help())),
+        None => Err(unknown(&name).into()),
+    }
+}
+
+pub fn unknown(given: &str) -> String {
+    let names: Vec<_> = COMMANDS.iter().map(|command| command.name).collect();
+    expected(&format!("a command ({} or help)", names.join(", ")), given)
+}
+
+pub const OVERVIEW: &str = "\
+tarhuspo: AVX permute instructions in software, by the proved library
+
+usage: tarhuspo COMMAND ..
+
+  list      the instructions of a list, a line for each
+  decode    one instruction in words
+  run       a list of instructions on a register file
+  map       byte maps: what a list does to every register file
+  compare   whether lists of instructions do the same
+  audit     the library against this machine's processor
+  help      this text; tarhuspo help COMMAND or tarhuspo COMMAND --help says more
+
+example: tarhuspo decode 62 F1 7D C9 70 CA 1B
+
+exit status: 0 done, 1 refused or different, 2 bad usage or a file that cannot be used
+";
+
+// Options that several commands have, and what CODE is.
+const MASKS: &str = "  \
+  --masks FILE     the opmasks k0 to k7 as eight hex numbers, or hex:.. with the
+                   numbers themselves; all zero if not given
+";
+
+const FEATURES: &str = "  \
+  --features LIST  what the processor has: names between commas out of avx,
+                   avx2, avx512f, avx512vl, avx512_vbmi, or their number; all if
+                   not given
+";
+
+const CODE: &str = "
+CODE is a list of instructions, end to end, of at most 4,096 bytes:
+  hex:C5F970CA1B   the bytes, as pairs of hex digits; with spaces, in quotes
+  FILE             a file with the bytes (./hex:x if its name starts with hex:)
+  -                standard input
+With --hex, files and standard input hold hex text instead: pairs of digits with
+spaces, line ends or commas between them, with or without 0x, # for comments.
+";
+
+const LIST: &str = "\
+usage: tarhuspo list [CODE] [--hex]
+
+Prints headings and a line for each instruction: its place, length in bytes,
+name, width in bits, and 0. The first one that is refused has the last line, with
+its status in place of the 0. All features count as there. Without CODE, standard
+input is read.
+";
+
+const LIST_END: &str = "
+example: tarhuspo list hex:C5F970CA1BC5E814CB
+
+exit status: 0 listed, also if the last line is a refusal; 1 the code is too
+long; 2 bad usage, or a file that cannot be read
+";
+
+const DECODE: &str = "\
+usage: tarhuspo decode HEX.. [--features LIST]
+
+Prints the instruction that the bytes start with as an assembler writes it, then
+its length, the memory that it wants, and each operand; or the status and why it
+is refused. A decoding does not say where memory lies, so that an operand there
+is written by its size: xmmword ptr [mem], or dword ptr [mem]{1to16} for one
+element that is repeated.
+
+  HEX              the bytes, as pairs of hex digits, with or without spaces
+                   and 0x
+";
+
+const DECODE_END: &str = "
+example: tarhuspo decode 62 F1 7D C9 70 CA 1B --features avx512f
+
+exit status: 0 accepted, 1 refused, 2 bad usage
+";
+
+const RUN: &str = "\
+usage: tarhuspo run CODE [--hex] [--registers FILE] [--masks FILE]
+                    [--features LIST] [--budget N] [--out FILE]
+
+Carries out the instructions of CODE. Prints how many (steps), where the next or
+the refused one starts (place), the status (answer), and the registers that
+changed, with their bytes.
+
+  --registers FILE the registers before: 2,048 bytes, zmm0 first, in each the
+                   lowest byte first; all zero if not given
+  --budget N       the most instructions to carry out; 1,024 if not given, which
+                   is enough for every list
+  --out FILE       where the registers go afterwards, 2,048 bytes; written only
+                   if the answer is 0
+";
+
+const RUN_END: &str = "
+example: tarhuspo run hex:C5F970CA1B --registers before.bin --out after.bin
+
+exit status: 0 the end was reached or the budget was spent, 1 refused, 2 bad
+usage, or a file that cannot be read or written
+";
+
+const MAP: &str = "\
+usage: tarhuspo map build CODE [--hex] [--masks FILE] [--features LIST]
+                    [--out FILE]
+       tarhuspo map apply MAP --registers FILE [--out FILE]
+       tarhuspo map compose MAP MAP.. [--out FILE]
+       tarhuspo map show MAP [--svg FILE]
+
+A byte map says for each of the 2,048 register bytes where it comes from. MAP is
+a file of 2,048 little-endian numbers of 16 bits, or - for standard input. Number
+64 r + i is for byte i of register r. It is 64 s + j if byte j of register s comes
+there, or 2048 for zero.
+
+build writes the map of a list, apply moves the bytes of a file of registers, and
+compose writes one map for several in the order of applying. show prints what
+moves, in runs such as zmm1[0..3] from zmm2[12..15], and leaves out what stays.
+
+  --registers FILE 2,048 bytes, zmm0 first, in each the lowest byte first
+  --out FILE       where the map or the registers go; standard output if not
+                   given, unless that is a terminal
+  --svg FILE       draws the map as well: a row for each register, a cell for
+                   each byte; with -, prints the drawing and no text
+";
+
+const MAP_END: &str = "
+example: tarhuspo map build hex:C5F970CA1B | tarhuspo map show -
+
+exit status: 0 done, 1 refused, 2 bad usage, or a file that cannot be read or
+written
+";
+
+const COMPARE: &str = "\
+usage: tarhuspo compare CODE CODE.. [--hex] [--masks FILE] [--features LIST]
+
+Builds the byte map of each list, and compares it with that of the first. Lists
+are the same if no starting registers tell them apart. Otherwise the lowest
+register byte that differs is named, with where each list takes it from.
+
+";
+
+const COMPARE_END: &str = "
+example: tarhuspo compare hex:C5F970CA1B hex:C5F970CAE4
+
+exit status: 0 all are the same, 1 some differ or are refused, 2 bad usage, or a
+file that cannot be read
+";
+
+const AUDIT: &str = "\
+usage: tarhuspo audit [--seconds N | --steps N | --case N] [--seed N]
+
+Carries out random instructions on this machine's processor and with the library.
+After each it compares 2,048 register bytes (32 registers of 64 bytes), 8 opmasks
+of 64 bits, the memory operand, status and length, and guard bytes around all
+buffers. Damaged encodings must raise #UD and be refused with status 4. It ends
+at the first difference, and prints all that is needed to repeat that.
+
+  --seconds N      stop after N seconds; 10 if nothing is given
+  --steps N        stop after N instructions, accepted and refused ones together
+  --case N         only case N, as a difference names it
+  --seed N         other instructions and registers; 1 if not given
+
+example: tarhuspo audit --seconds 60 --seed 7
+
+exit status: 0 no difference, 1 a difference, 2 bad usage, or nothing can be
+compared here
+";

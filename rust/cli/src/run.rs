@@ -1,0 +1,93 @@
+//! `tarhuspo run`: a list of instructions on a register file.
+
+use crate::answer::{Answer, Failure};
+use crate::features;
+use crate::input::Inputs;
+use crate::options::{Known, Options, FEATURES, HEX, MASKS, OUT, REGISTERS};
+use crate::places::{range, REGISTER_SIZE};
+use std::ffi::OsString;
+use tarhuspo::limits::{FILE_SIZE, MOST_STEPS};
+use tarhuspo::{describe, Ran};
+
+const BUDGET: Known = Known::with("--budget", "a number of steps");
+const OPTIONS: [Known; 6] = [HEX, REGISTERS, MASKS, FEATURES, BUDGET, OUT];
+
+pub fn run(words: &[OsString]) -> Result<Answer, Failure> {
+    let options = Options::parse(words, &OPTIONS)?;
+    let out = options.value(&OUT);
+    if out.is_some_and(|path| path == "-") {
+        return Err("expected a file name after --out: standard output has the report".into());
+    }
+    let mut inputs = Inputs::new(&options);
+    let code = inputs.code(options.only("one list of instructions")?)?;
+    let before = match options.value(&REGISTERS) {
+        Some(word) => inputs.registers(word)?,
+        None => vec![0; FILE_SIZE],
+    };
+    let masks = inputs.masks(&options)?;
+    let features = features::given(&options)?;
+    let budget = options.number(&BUDGET)?.unwrap_or(MOST_STEPS);
+
+    let mut file = before.clone();
+    let ran = tarhuspo::run(&code, &mut file, &masks, features, budget);
+    let mut answer = Answer::text(report(&ran, code.len(), &before, &file));
+    match out {
+        Some(path) if ran.status == 0 => answer.file = Some((path.into(), file)),
+        Some(_) => answer.text.extend(b"out:     not written\n"),
+        None => {}
+    }
+    Ok(answer.refused_if(ran.status != 0))
+}
+
+fn report(ran: &Ran, length: usize, before: &[u8], after: &[u8]) -> String {
+    let (steps, place, status) = (ran.steps, ran.place, ran.status);
+    let sentence = match status {
+        0 if place == length as u64 => "The end of the code was reached.",
+        0 => "The budget was spent.",
+        _ => describe(status),
+    };
+    let changed = changed(before, after);
+    format!(
+        "steps:   {steps}\n\
+         place:   {place} of {length}\n\
+         answer:  {status}: {sentence}\n\
+         changed: {changed}\n"
+    )
+}
+
+/// The registers that are not as before, each with the bytes that are not.
+fn changed(before: &[u8], after: &[u8]) -> String {
+    let pairs = before
+        .chunks(REGISTER_SIZE)
+        .zip(after.chunks(REGISTER_SIZE));
+    let registers = pairs.enumerate().filter_map(|(number, (before, after))| {
+        let bytes = changed_bytes(before, after)?;
+        Some(format!("zmm{number} ({bytes})"))
+    });
+    let registers: Vec<_> = registers.collect();
+    match registers[..] {
+        [] if before.iter().all(|byte| *byte == 0) => {
+            "none, as all registers were zero (see --registers)".to_string()
+        }
+        [] => "none".to_string(),
+        _ => registers.join(", "),
+    }
+}
+
+/// The bytes of one register that differ, as in `bytes 0..3, 8`, or nothing.
+fn changed_bytes(before: &[u8], after: &[u8]) -> Option<String> {
+    let mut runs: Vec<(usize, usize)> = Vec::new();
+    let differing = (0..before.len()).filter(|byte| before[*byte] != after[*byte]);
+    for byte in differing {
+        match runs.last_mut() {
+            Some((first, length)) if *first + *length == byte => *length += 1,
+            _ => runs.push((byte, 1)),
+        }
+    }
+    let ranges: Vec<_> = runs.iter().map(|(first, n)| range(*first, *n)).collect();
+    match runs[..] {
+        [] => None,
+        [(byte, 1)] => Some(format!("byte {byte}")),
+        _ => Some(format!("bytes {}", ranges.join(", "))),
+    }
+}

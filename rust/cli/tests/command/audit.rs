@@ -1,0 +1,109 @@
+//! `tarhuspo audit`.
+
+use crate::tools::{assert_bad_usage, at_terminal, printed};
+use audit::Capabilities;
+
+/// Whether this machine can compare anything. If not, one line says so.
+fn has_avx() -> bool {
+    let has = Capabilities::detect().register_set().is_some();
+    if !has {
+        println!("skipped: no AVX on this machine");
+    }
+    has
+}
+
+#[test]
+fn report_states_sizes_with_their_units() {
+    if !has_avx() {
+        return;
+    }
+    let report = printed(&["audit", "--steps", "2000", "--seed", "5"]);
+    let lines = [
+        "engine: tarhuspo, seed 5\n",
+        "\nprocessor: ",
+        "\nforms skipped: ",
+        "\nsteps compared: 1500 carried out, 500 refused with #UD\n",
+        "\ncompared after each: 2048 register bytes (32 registers of 64 bytes), 8 opmasks of 64 bits",
+        " status, length in bytes, the memory operand, the guard bytes ",
+        "\nno difference\n",
+    ];
+    for line in lines {
+        assert_eq!(report.matches(line).count(), 1, "{line:?} in\n{report}");
+    }
+}
+
+#[test]
+fn seconds_limit_the_audit() {
+    if !has_avx() {
+        return;
+    }
+    let report = printed(&["audit", "--seconds", "1"]);
+    let mut times = report
+        .lines()
+        .filter_map(|line| line.strip_prefix("time: "));
+    let seconds = times.next().and_then(|time| time.split(' ').next());
+    let seconds: f64 = seconds.and_then(|s| s.parse().ok()).expect("a time");
+    assert!((1.0..5.0).contains(&seconds), "{report}");
+    assert!(report.starts_with("engine: tarhuspo, seed 1\n"), "{report}");
+}
+
+#[test]
+fn one_case_can_be_repeated() {
+    if !has_avx() {
+        return;
+    }
+    let last = u64::MAX.to_string();
+    for (case, compared) in [
+        ("0", "1 carried out, 0"),
+        ("3", "0 carried out, 1"),
+        (&last, "0 "),
+    ] {
+        let report = printed(&["audit", "--case", case, "--seed", "7"]);
+        let line = format!("\nsteps compared: {compared}");
+        assert!(report.contains(&line), "{report}");
+    }
+}
+
+/// A person sees how far it is, and afterwards the report alone.
+#[test]
+fn progress_is_shown_at_a_terminal() {
+    if !has_avx() {
+        return;
+    }
+    let Some((status, out)) = at_terminal("audit --seconds 1") else {
+        return;
+    };
+    assert_eq!(status, Some(0), "{out}");
+    let lines = out.matches("\raudit: ").count();
+    assert!((2..=6).contains(&lines), "{out:?}");
+    assert!(out.contains(" instructions, 0 of 1 s\x1b[K"), "{out:?}");
+    let (_, report) = out.rsplit_once("\r\x1b[K").expect("the line is cleared");
+    assert!(report.starts_with("engine: tarhuspo"), "{out:?}");
+    let (_, out) = at_terminal("audit --steps 500").expect("as before");
+    assert!(
+        out.contains("\raudit: 1 of 500 instructions, 0 s\x1b[K"),
+        "{out:?}"
+    );
+}
+
+#[test]
+fn bad_usage_is_one_line() {
+    let options = "--seconds, --steps, --case, --seed";
+    let message = format!("expected an option among {options}, not '--what'");
+    assert_bad_usage(&["audit", "--what"], &message);
+    assert_bad_usage(&["audit", "x"], "expected options alone, not 'x'");
+    assert_bad_usage(&["audit", "--seed"], "expected a number after --seed");
+    for given in ["x", "-1", "+1", "18446744073709551616"] {
+        let message = format!("expected a number below 2^64 after --seed, not '{given}'");
+        assert_bad_usage(&["audit", "--seed", given], &message);
+    }
+    let twice = "expected --seed only once";
+    assert_bad_usage(&["audit", "--seed", "1", "--seed", "2"], twice);
+    for option in ["--seconds", "--steps"] {
+        let message = format!("expected a number above 0 after {option}");
+        assert_bad_usage(&["audit", option, "0"], &message);
+    }
+    let several = "expected only one of --seconds, --steps and --case";
+    assert_bad_usage(&["audit", "--seconds", "1", "--steps", "1"], several);
+    assert_bad_usage(&["audit", "--case", "1", "--steps", "1"], several);
+}

@@ -1,0 +1,104 @@
+//! `tarhuspo compare`.
+
+use crate::tools::{assert_bad_usage, printed, run, run_with_input, Folder};
+
+/// vpshufd xmm1, xmm2, 0xe4: a copy of the lowest lane.
+const COPY: &str = "hex:C5F970CAE4";
+/// vpshufd xmm1, xmm2, 0x1b, then vpshufd xmm1, xmm1, 0x1b: there and back.
+const TWICE: &str = "hex:C5F970CA1B C5F970C91B";
+/// vpshufd xmm1, xmm2, 0x1b
+const SHUFFLE: &str = "hex:C5F970CA1B";
+
+fn refusal(place: u64, status: u32) -> String {
+    let sentence = tarhuspo::describe(status);
+    format!("refused at place {place}, status {status}: {sentence}")
+}
+
+#[test]
+fn different_lists_may_do_the_same() {
+    let expected = format!("list 1 ('{COPY}') and list 2 ('{TWICE}'): same\n");
+    assert_eq!(printed(&["compare", COPY, TWICE]), expected);
+    let expected = "list 1 ('hex:') and list 2 ('hex:'): same\n";
+    assert_eq!(printed(&["compare", "hex:", "hex:"]), expected);
+}
+
+fn assert_differ(arguments: &[&str], difference: &str) {
+    let (status, out, err) = run(arguments);
+    assert_eq!((status, err.as_str()), (Some(1), ""), "{arguments:?}");
+    let found = out
+        .rsplit_once(": differ first in ")
+        .map(|(_, found)| found);
+    assert_eq!(found, Some(difference), "{out}");
+}
+
+#[test]
+fn the_lowest_byte_and_both_origins_are_named() {
+    assert_differ(
+        &["compare", COPY, SHUFFLE],
+        "zmm1[0], which comes from zmm2[0] in list 1 and comes from zmm2[12] in list 2\n",
+    );
+    assert_differ(
+        &["compare", "hex:", COPY],
+        "zmm1[0], which is kept in list 1 and comes from zmm2[0] in list 2\n",
+    );
+    // vpshufd zmm1, zmm2, 0xe4 copies the other lanes too.
+    assert_differ(
+        &["compare", COPY, "hex:62F17D4870CAE4"],
+        "zmm1[16], which is zero in list 1 and comes from zmm2[16] in list 2\n",
+    );
+    // vpshufd zmm31{k1}{z}, zmm31, 0xe4 clears what the mask leaves out.
+    assert_differ(
+        &[
+            "compare",
+            "hex:62017DC970FFE4",
+            "hex:",
+            "--masks",
+            "hex:0,7FFF,0,0,0,0,0,0",
+        ],
+        "zmm31[60], which is zero in list 1 and is kept in list 2\n",
+    );
+}
+
+#[test]
+fn each_list_is_compared_with_the_first() {
+    let folder = Folder::new("compare_many");
+    let shuffle = folder.write("shuffle.bin", [0xC5, 0xF9, 0x70, 0xCA, 0x1B]);
+    let arguments = ["compare", COPY, TWICE, &shuffle, "hex:C5F970CA", "-"];
+    let (status, out, err) = run_with_input(&arguments, &[0xC5, 0xF9, 0x70, 0xCA, 0xE4]);
+    assert_eq!((status, err.as_str()), (Some(1), ""));
+    let first = format!("list 1 ('{COPY}')");
+    let origins = "comes from zmm2[0] in list 1 and comes from zmm2[12] in list 3";
+    let expected = [
+        format!("{first} and list 2 ('{TWICE}'): same\n"),
+        format!("{first} and list 3 ('{shuffle}'): differ first in zmm1[0], which {origins}\n"),
+        format!("list 4 ('hex:C5F970CA'): {}\n", refusal(0, 2)),
+        format!("{first} and list 5 (standard input): same\n"),
+    ];
+    assert_eq!(out, expected.concat());
+}
+
+#[test]
+fn the_first_refusal_of_the_first_list_ends_it() {
+    let (status, out, err) = run(&["compare", "hex:C5F970CAE490", "hex:90"]);
+    assert_eq!((status, err.as_str()), (Some(1), ""));
+    let expected = format!("list 1 ('hex:C5F970CAE490'): {}\n", refusal(5, 3));
+    assert_eq!(out, expected);
+    let (status, out, _) = run(&["compare", COPY, COPY, "--features", "0"]);
+    assert_eq!(status, Some(1));
+    assert_eq!(out, format!("list 1 ('{COPY}'): {}\n", refusal(0, 5)));
+}
+
+#[test]
+fn bad_usage_is_one_line() {
+    let two = "expected two or more lists of instructions after 'compare'";
+    assert_bad_usage(&["compare"], two);
+    assert_bad_usage(&["compare", COPY], two);
+    let twice = "expected standard input (-) for one input only";
+    assert_bad_usage(&["compare", "-", "-"], twice);
+    assert_bad_usage(
+        &["compare", COPY, "hex:zz"],
+        "expected pairs of hex digits, not 'zz'",
+    );
+    let options = "expected an option among --hex, --masks, --features, not '--out'";
+    assert_bad_usage(&["compare", COPY, COPY, "--out", "x"], options);
+}

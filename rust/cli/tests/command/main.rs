@@ -1,0 +1,12 @@
+//! Drives the built command as a user does: arguments, standard input, files, exit status, output.
+
+mod audit;
+mod compare;
+mod decode;
+mod files;
+mod list;
+mod map;
+mod picture;
+mod run;
+mod tools;
+mod usage;

@@ -1,0 +1,201 @@
+//! `tarhuspo run`.
+
+use crate::tools::{assert_bad_usage, printed, registers, run, run_with_input, Folder};
+
+/// vunpcklps xmm1, xmm2, xmm3; vpshufd xmm17, xmm26, 0xe4
+const LIST: &str = "hex:C5E814CB 62817D0870CAE4";
+
+fn report(steps: u64, place: &str, answer: &str, changed: &str) -> String {
+    format!("steps:   {steps}\nplace:   {place}\nanswer:  {answer}\nchanged: {changed}\n")
+}
+
+fn refusal(status: u32) -> String {
+    format!("{status}: {}", tarhuspo::describe(status))
+}
+
+const END: &str = "0: The end of the code was reached.";
+const SPENT: &str = "0: The budget was spent.";
+
+#[test]
+fn steps_place_answer_and_changed_registers() {
+    let folder = Folder::new("run_report");
+    let before = folder.write("before.bin", registers());
+    let changed = "zmm1 (bytes 0..63), zmm17 (bytes 0..63)";
+    let out = printed(&["run", LIST, "--registers", &before]);
+    assert_eq!(out, report(2, "11 of 11", END, changed));
+    let arguments = ["run", "--budget", "1", LIST, "--registers", &before];
+    let expected = report(1, "4 of 11", SPENT, "zmm1 (bytes 0..63)");
+    assert_eq!(printed(&arguments), expected);
+    let arguments = ["run", "--budget=0", LIST, "--registers", &before];
+    assert_eq!(printed(&arguments), report(0, "0 of 11", SPENT, "none"));
+    let arguments = ["run", "hex:", "--registers", &before];
+    assert_eq!(printed(&arguments), report(0, "0 of 0", END, "none"));
+}
+
+/// Only the bytes that are not as before are named.
+#[test]
+fn changed_bytes_in_runs() {
+    let folder = Folder::new("run_changed");
+    let mut bytes = vec![0; 2_048];
+    // vpshufd zmm1, zmm2, 0xe4 copies register 2.
+    for place in [128, 129, 131, 136, 137, 191] {
+        bytes[place] = 9;
+    }
+    let before = folder.write("before.bin", &bytes);
+    let arguments = ["run", "hex:62F17D4870CAE4", "--registers", &before];
+    let expected = report(1, "7 of 7", END, "zmm1 (bytes 0..1, 3, 8..9, 63)");
+    assert_eq!(printed(&arguments), expected);
+
+    bytes[128..192].fill(0);
+    bytes[133] = 1;
+    let before = folder.write("before.bin", &bytes);
+    let arguments = ["run", "hex:62F17D4870CAE4", "--registers", &before];
+    let expected = report(1, "7 of 7", END, "zmm1 (byte 5)");
+    assert_eq!(printed(&arguments), expected);
+}
+
+#[test]
+fn registers_are_zero_if_not_given() {
+    let folder = Folder::new("run_zero");
+    let after = folder.path("after.bin");
+    let changed = "none, as all registers were zero (see --registers)";
+    let out = printed(&["run", LIST, "--out", &after]);
+    assert_eq!(out, report(2, "11 of 11", END, changed));
+    assert_eq!(folder.read("after.bin"), [0; 2_048]);
+}
+
+/// The file that the library leaves for the same inputs.
+fn library_file(code: &[u8], masks: [u64; 8], features: u32) -> Vec<u8> {
+    let mut file = registers();
+    let ran = tarhuspo::run(code, &mut file, &masks, features, 1_024);
+    assert_eq!(ran.status, 0);
+    file
+}
+
+#[test]
+fn masks_and_features_count() {
+    let folder = Folder::new("run_masks");
+    let before = folder.write("before.bin", registers());
+    let after = folder.path("after.bin");
+    // vpshufd zmm1{k1}{z}, zmm2, 0x1b
+    let (code, bytes) = (
+        "hex:62F17DC970CA1B",
+        [0x62, 0xF1, 0x7D, 0xC9, 0x70, 0xCA, 0x1B],
+    );
+    let text = "# k0 first\n0, 0xF0F0\n0 0 0 0 0 FFFFFFFFFFFFFFFF\n";
+    let masks = folder.write("masks.txt", text);
+    let inline = format!("hex:{}", text.replace("# k0 first\n", ""));
+    for given in [&masks, &inline] {
+        let rest = ["--registers", &before, "--out", &after, "--masks", given];
+        printed(&[&["run", code, "--features", "avx512f"], &rest[..]].concat());
+        let expected = library_file(&bytes, [0, 0xF0F0, 0, 0, 0, 0, 0, u64::MAX], 4);
+        assert_eq!(folder.read("after.bin"), expected, "{given}");
+    }
+    printed(&["run", code, "--registers", &before, "--out", &after]);
+    assert_eq!(folder.read("after.bin"), library_file(&bytes, [0; 8], 31));
+
+    let (status, out, _) = run(&["run", code, "--features", "avx,avx2"]);
+    assert_eq!(status, Some(1));
+    let changed = "none, as all registers were zero (see --registers)";
+    assert_eq!(out, report(0, "0 of 7", &refusal(5), changed));
+}
+
+#[test]
+fn a_refusal_keeps_the_steps_done_and_writes_no_file() {
+    let folder = Folder::new("run_refused");
+    let before = folder.write("before.bin", registers());
+    let after = folder.write("after.bin", "as before");
+    let code = "hex:C5E814CB C5F97008 1B";
+    let (status, out, err) = run(&["run", code, "--registers", &before, "--out", &after]);
+    assert_eq!((status, err.as_str()), (Some(1), ""));
+    let expected = report(1, "4 of 9", &refusal(6), "zmm1 (bytes 0..63)");
+    assert_eq!(out, expected + "out:     not written\n");
+    assert_eq!(folder.read("after.bin"), b"as before");
+    assert_eq!(folder.names(), ["after.bin", "before.bin"]);
+
+    let code = folder.write("long.bin", [0xC5; 4_097]);
+    let (status, out, _) = run(&["run", &code, "--budget", "0", "--registers", &before]);
+    assert_eq!(status, Some(1));
+    assert_eq!(out, report(0, "0 of 4097", &refusal(8), "none"));
+    let (status, out, _) = run(&["run", "hex:", "--features", "32", "--registers", &before]);
+    assert_eq!(status, Some(1));
+    assert_eq!(out, report(0, "0 of 0", &refusal(1), "none"));
+}
+
+#[test]
+fn registers_may_be_replaced_by_the_result() {
+    let folder = Folder::new("run_in_place");
+    let file = folder.write("registers.bin", registers());
+    let code = folder.write("code.bin", [0xC5, 0xE8, 0x14, 0xCB]);
+    printed(&["run", &code, "--registers", &file, "--out", &file]);
+    let expected = library_file(&[0xC5, 0xE8, 0x14, 0xCB], [0; 8], 31);
+    assert_eq!(folder.read("registers.bin"), expected);
+    assert_eq!(folder.names(), ["code.bin", "registers.bin"]);
+}
+
+#[test]
+fn any_one_input_may_be_standard_input() {
+    let folder = Folder::new("run_input");
+    let before = folder.write("before.bin", registers());
+    let expected = printed(&["run", LIST, "--registers", &before]);
+    let bytes = registers();
+    let ran = run_with_input(&["run", LIST, "--registers", "-"], &bytes);
+    assert_eq!(ran, (Some(0), expected.clone(), String::new()));
+    let arguments = ["run", "--hex", "-", "--registers", &before];
+    let ran = run_with_input(&arguments, LIST.trim_start_matches("hex:").as_bytes());
+    assert_eq!(ran, (Some(0), expected.clone(), String::new()));
+    let arguments = ["run", LIST, "--registers", &before, "--masks", "-"];
+    let ran = run_with_input(&arguments, b"0 0 0 0 0 0 0 0");
+    assert_eq!(ran, (Some(0), expected, String::new()));
+    let twice = "expected standard input (-) for one input only";
+    assert_bad_usage(&["run", "-", "--registers", "-"], twice);
+}
+
+#[test]
+fn files_of_the_wrong_size_are_bad_usage() {
+    let folder = Folder::new("run_sizes");
+    let what = "expected 2,048 bytes of registers in";
+    for (size, found) in [(0, "0"), (64, "64"), (2_047, "2047"), (2_049, "more")] {
+        let file = folder.write("registers.bin", vec![1; size]);
+        let message = format!("{what} '{file}', not {found}");
+        assert_bad_usage(&["run", LIST, "--registers", &file], &message);
+    }
+    for (text, found) in [("", 0), ("1 2 3 4 5 6 7", 7), ("1 2 3 4 5 6 7 8 9", 9)] {
+        let file = folder.write("masks.txt", text);
+        let message = format!("expected 8 hex numbers in '{file}', not {found}");
+        assert_bad_usage(&["run", LIST, "--masks", &file], &message);
+    }
+    for odd in ["x", "+1", "0x", "10000000000000000", "-1"] {
+        let file = folder.write("masks.txt", format!("1 2\n{odd} 4 5 6 7 8"));
+        let what = "expected hex numbers below 2^64 in line 2 of";
+        let message = format!("{what} '{file}', not '{odd}'");
+        assert_bad_usage(&["run", LIST, "--masks", &file], &message);
+    }
+}
+
+#[test]
+fn bad_usage_is_one_line() {
+    assert_bad_usage(&["run"], "expected one list of instructions");
+    let twice = "expected one list of instructions, and not 'b' as well";
+    assert_bad_usage(&["run", "a", "b"], twice);
+    let options = "--hex, --registers, --masks, --features, --budget, --out";
+    assert_bad_usage(
+        &["run", LIST, "--register", "x"],
+        &format!("expected an option among {options}, not '--register'"),
+    );
+    for (option, value) in [
+        ("--registers", "a file of 2,048 bytes"),
+        ("--masks", "a file of eight hex numbers"),
+        ("--budget", "a number of steps"),
+        ("--out", "a file name"),
+    ] {
+        let message = format!("expected {value} after {option}");
+        assert_bad_usage(&["run", LIST, option], &message);
+    }
+    for budget in ["", "x", "-1", "+1", "1.5", "18446744073709551616"] {
+        let message = format!("expected a number below 2^64 after --budget, not '{budget}'");
+        assert_bad_usage(&["run", LIST, "--budget", budget], &message);
+    }
+    let out = "expected a file name after --out: standard output has the report";
+    assert_bad_usage(&["run", LIST, "--out", "-"], out);
+}

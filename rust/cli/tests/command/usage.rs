@@ -1,0 +1,162 @@
+//! What all commands share: help, bad usage, output that cannot be written.
+
+use crate::tools::{assert_bad_usage, command, printed, ran, run};
+use std::ffi::OsString;
+use std::fs::{File, OpenOptions};
+use std::os::unix::ffi::OsStringExt;
+use std::process::{Command, Stdio};
+
+const COMMANDS: [&str; 6] = ["list", "decode", "run", "map", "compare", "audit"];
+
+#[test]
+fn overview_is_printed_when_asked_for_and_when_nothing_is() {
+    let overview = printed(&["help"]);
+    for command in COMMANDS {
+        assert!(overview.contains(&format!("\n  {command} ")), "{command}");
+    }
+    for arguments in [&["--help"][..], &["-h"]] {
+        assert_eq!(printed(arguments), overview);
+    }
+    assert_eq!(run(&[]), (Some(2), String::new(), overview));
+}
+
+#[test]
+fn each_command_has_help() {
+    for command in COMMANDS {
+        let help = printed(&["help", command]);
+        assert!(help.starts_with(&format!("usage: tarhuspo {command} ")));
+        assert!(help.contains("\nexample: tarhuspo ") && help.contains("\nexit status: 0 "));
+        for arguments in [
+            &[command, "--help"][..],
+            &[command, "-h"],
+            &["--help", command],
+            &[command, "build", "--what", "--help", "x"],
+        ] {
+            assert_eq!(printed(arguments), help, "{arguments:?}");
+        }
+    }
+}
+
+/// The examples in the help do what they are there for.
+#[test]
+fn examples_of_the_help_work() {
+    for command in ["list", "decode", "compare"] {
+        let help = printed(&["help", command]);
+        let mut examples = help
+            .lines()
+            .filter_map(|line| line.strip_prefix("example: "));
+        let example = examples.next().expect("an example");
+        let words: Vec<_> = example.split(' ').skip(1).collect();
+        let (status, out, err) = run(&words);
+        let expected = if command == "compare" { 1 } else { 0 };
+        assert_eq!((status, err.as_str()), (Some(expected), ""), "{example}");
+        assert!(!out.is_empty(), "{example}");
+    }
+}
+
+#[test]
+fn unknown_commands_are_bad_usage() {
+    let names = "list, decode, run, map, compare, audit or help";
+    for arguments in [&["encode"][..], &["help", "encode"]] {
+        let message = format!("expected a command ({names}), not 'encode'");
+        assert_bad_usage(arguments, &message);
+    }
+    assert_bad_usage(&[""], &format!("expected a command ({names}), not ''"));
+    assert_bad_usage(
+        &["help", "list", "run"],
+        "expected at most one command after 'help'",
+    );
+    let map = "expected build, apply, compose or show after 'map'";
+    assert_bad_usage(&["map"], map);
+    assert_bad_usage(&["map", "draw"], &format!("{map}, not 'draw'"));
+}
+
+fn run_odd(before: &[&str], bytes: &[u8]) -> (Option<i32>, String, String) {
+    let mut command = command();
+    command.args(before).arg(OsString::from_vec(bytes.to_vec()));
+    ran(command.output().expect("the command starts"))
+}
+
+#[test]
+fn arguments_that_are_no_text_are_bad_usage() {
+    let (status, out, err) = run_odd(&[], &[0xFF, 0xFE]);
+    assert_eq!((status, out.as_str()), (Some(2), ""));
+    assert_eq!(err, "tarhuspo: expected a command in UTF-8\n");
+    for before in [
+        &["decode"][..],
+        &["decode", "90", "--features"],
+        &["map"],
+        &["run", "hex:", "--budget"],
+        &["list"],
+        &["list", "hex:", "--hex"],
+    ] {
+        let (status, out, err) = run_odd(before, &[0xFF, 0xFE]);
+        assert_eq!((status, out.as_str()), (Some(2), ""), "{before:?}");
+        assert!(err.starts_with("tarhuspo: expected "), "{err}");
+        assert_eq!(err.lines().count(), 1, "{err}");
+    }
+}
+
+/// A file's name need not be text.
+#[test]
+fn any_file_name_will_do() {
+    let name = OsString::from_vec(b"code-\xFF.bin".to_vec());
+    let path = std::path::Path::new(env!("CARGO_TARGET_TMPDIR")).join(name);
+    std::fs::write(&path, [0xC5, 0xE8, 0x14, 0xCB]).expect("a file");
+    let output = command().arg("list").arg(&path).output();
+    let (status, out, err) = ran(output.expect("the command starts"));
+    std::fs::remove_file(&path).expect("the file is there");
+    assert_eq!((status, err.as_str()), (Some(0), ""));
+    assert!(out.ends_with("\n0\t4\tVUNPCKLPS\t128\t0\n"), "{out}");
+}
+
+fn into_pipe(command: &mut Command, out: Stdio) -> (Option<i32>, String) {
+    let child = command.stdout(out).stderr(Stdio::piped()).spawn();
+    let output = child.and_then(|child| child.wait_with_output());
+    let (status, _, err) = ran(output.expect("the command starts"));
+    (status, err)
+}
+
+#[test]
+fn a_closed_pipe_is_no_failure() {
+    let map = ["map", "build", "hex:C5F970CA1B"];
+    for (arguments, expected) in [
+        (&["decode", "C5F970CA1B"][..], 0),
+        (&["decode", "90"], 1),
+        (&["help"], 0),
+        (&["list", "hex:C5F970CA1B"], 0),
+        (&map, 0),
+    ] {
+        let (reader, writer) = std::io::pipe().expect("a pipe");
+        drop(reader);
+        let (status, err) = into_pipe(command().args(arguments), writer.into());
+        assert_eq!(
+            (status, err.as_str()),
+            (Some(expected), ""),
+            "{arguments:?}"
+        );
+    }
+}
+
+/// A device on which every write fails, if the system has it.
+pub fn full_device() -> Option<File> {
+    let full = OpenOptions::new().write(true).open("/dev/full");
+    if full.is_err() {
+        println!("skipped: this system has no /dev/full");
+    }
+    full.ok()
+}
+
+#[test]
+fn output_that_cannot_be_written_is_reported() {
+    for arguments in [&["decode", "90"][..], &["map", "build", "hex:"], &["help"]] {
+        let Some(full) = full_device() else { return };
+        let (status, err) = into_pipe(command().args(arguments), full.into());
+        assert_eq!(status, Some(2), "{arguments:?}");
+        assert!(
+            err.starts_with("tarhuspo: cannot write the answer: "),
+            "{err}"
+        );
+        assert_eq!(err.lines().count(), 1, "{err}");
+    }
+}
