@@ -1,64 +1,17 @@
 //! The C header compiles as C and as C++, and has the layout that the archive was compiled for.
 
-use std::io::ErrorKind;
-use std::path::PathBuf;
-use std::process::{Command, Output};
+#[path = "c/compiler.rs"]
+mod compiler;
 
-const INCLUDE: &str = env!("TARHUSPO_INCLUDE");
-const ARCHIVE: &str = env!("TARHUSPO_ARCHIVE");
-
-fn source(name: &str) -> PathBuf {
-    [env!("CARGO_MANIFEST_DIR"), "tests", "c", name]
-        .iter()
-        .collect()
-}
-
-/// Runs a compiler with warnings as errors. Gives false if the system has no such compiler.
-fn compile(compiler: &str, arguments: &[&str]) -> bool {
-    let mut command = Command::new(compiler);
-    command
-        .args(["-Wall", "-Wextra", "-Werror", "-pedantic", "-I", INCLUDE])
-        .args(arguments);
-    match command.output() {
-        Err(e) if e.kind() == ErrorKind::NotFound => {
-            println!("skipped: this system has no `{compiler}`");
-            false
-        }
-        Err(e) => panic!("cannot run `{compiler}`: {e}"),
-        Ok(output) => {
-            assert!(
-                output.status.success(),
-                "{compiler} failed:\n{}",
-                errors(&output)
-            );
-            true
-        }
-    }
-}
-
-fn errors(output: &Output) -> String {
-    String::from_utf8_lossy(&output.stderr).into_owned()
-}
+use compiler::{compile, printed, INCLUDE};
+use std::path::{Path, PathBuf};
 
 #[test]
 fn c_program_runs_against_the_archive() {
-    let program: PathBuf = [env!("CARGO_TARGET_TMPDIR"), "c_header"].iter().collect();
-    let (program, source) = (program.to_string_lossy(), source("header.c"));
-    let arguments = [
-        "-std=c11",
-        "-o",
-        &program,
-        &source.to_string_lossy(),
-        ARCHIVE,
-    ];
-    if !compile("cc", &arguments) {
+    let source = Path::new(env!("CARGO_MANIFEST_DIR")).join("tests/c/header.c");
+    let Some(printed) = printed(&source, "c_header") else {
         return;
-    }
-    let output = Command::new(&*program)
-        .output()
-        .expect("the compiled program starts");
-    assert!(output.status.success(), "{}", errors(&output));
-    let printed = String::from_utf8_lossy(&output.stdout);
+    };
     let expected = "accepted: 0 6 8 1 256 1 17 9 0 3 1 1 0 0\n\
                     too short: 2 0 0 0 0 0 0 0 0 0 0 0 0 0\n\
                     empty: 2 0 0 0 0 0 0 0 0 0 0 0 0 0\n\

@@ -1,0 +1,158 @@
+/*
+ * Each function of the library once, with its status looked at. Build it at the top of the
+ * repository, after `rt staticlib tarhuspo`:
+ *
+ *     cc -std=c11 -I include examples/example.c target/staticlib/libtarhuspo.a -o example
+ *
+ * examples/example.txt is what it prints.
+ */
+#include "tarhuspo.h"
+
+#include <inttypes.h>
+#include <stdio.h>
+#include <stdlib.h>
+#include <string.h>
+
+/* What the guest's processor has. */
+#define FEATURES                                                                               \
+    (TARHUSPO_AVX | TARHUSPO_AVX2 | TARHUSPO_AVX512F | TARHUSPO_AVX512VL | TARHUSPO_AVX512_VBMI)
+
+/* vunpcklps xmm1, xmm2, xmm3 */
+#define UNPACK 0xC5, 0xE8, 0x14, 0xCB
+/* vpshufd xmm1, xmm1, 0x1b */
+#define SHUFFLE 0xC5, 0xF9, 0x70, 0xC9, 0x1B
+
+static const uint8_t list[] = {UNPACK, SHUFFLE};
+static const uint8_t list_twice[] = {UNPACK, SHUFFLE, UNPACK, SHUFFLE};
+
+/* vpshufd zmm1{k1}, dword ptr [mem]{1to16}, 0x1b */
+static const uint8_t broadcast[] = {0x62, 0xF1, 0x7D, 0x59, 0x70, 0x08, 0x1B};
+
+/* The guest's registers: byte i of register r is file[64 * r + i]. */
+static uint8_t file[TARHUSPO_FILE_SIZE];
+static uint64_t masks[TARHUSPO_MASK_COUNT];
+
+/* Ends the program if a call was refused that should not be. */
+static void check(const char *what, uint32_t status)
+{
+    if (status != 0) {
+        fprintf(stderr, "%s: refused with status %" PRIu32 "\n", what, status);
+        exit(EXIT_FAILURE);
+    }
+}
+
+static void expect(const char *what, int holds)
+{
+    if (!holds) {
+        fprintf(stderr, "%s: does not hold\n", what);
+        exit(EXIT_FAILURE);
+    }
+}
+
+static void fill_registers(void)
+{
+    size_t i;
+
+    for (i = 0; i < sizeof file; i++)
+        file[i] = (uint8_t)(i + i / 64);
+}
+
+/* Decoding tells the length, the operands and how much memory is wanted. */
+static uint32_t decode(void)
+{
+    tarhuspo_decoded d = tarhuspo_decode(broadcast, sizeof broadcast, FEATURES);
+    tarhuspo_decoded cut = tarhuspo_decode(broadcast, sizeof broadcast - 1, FEATURES);
+
+    check("decode", d.status);
+    printf("decode: mnemonic %" PRIu32 " of %" PRIu32 " bits, %" PRIu32 " bytes long\n", d.mnemonic,
+           d.bits, d.length);
+    printf("        destination %" PRIu32 ", opmask %" PRIu32 ", wants %" PRIu32 " bytes of memory\n",
+           d.destination, d.mask, d.memory);
+    printf("        without the last byte: status %" PRIu32 "\n", cut.status);
+    return d.memory;
+}
+
+/* A step gets exactly the memory that decoding named, and is refused otherwise. */
+static void step(uint32_t wanted)
+{
+    const uint8_t memory[64] = {0xA0, 0xA1, 0xA2, 0xA3};
+    tarhuspo_stepped s;
+
+    masks[1] = 0x2; /* element 1 alone is written */
+    s = tarhuspo_step(broadcast, sizeof broadcast, file, sizeof file, masks, TARHUSPO_MASK_COUNT,
+                      FEATURES, memory, wanted);
+    check("step", s.status);
+    printf("step: %" PRIu32 " bytes, register 1 has %02X %02X %02X from byte 3 on\n", s.length,
+           file[67], file[68], file[69]);
+    s = tarhuspo_step(broadcast, sizeof broadcast, file, sizeof file, masks, TARHUSPO_MASK_COUNT,
+                      FEATURES, memory, sizeof memory);
+    printf("      with 64 bytes of memory: status %" PRIu32 "\n", s.status);
+}
+
+/* A run of one step, and then of the rest. */
+static void run(void)
+{
+    tarhuspo_ran r = tarhuspo_run(list, sizeof list, file, sizeof file, masks, TARHUSPO_MASK_COUNT,
+                                  FEATURES, 1);
+    size_t place = (size_t)r.place;
+
+    check("run", r.status);
+    printf("run: %" PRIu64 " step, next at %" PRIu64 "\n", r.steps, r.place);
+    r = tarhuspo_run(list + place, sizeof list - place, file, sizeof file, masks,
+                     TARHUSPO_MASK_COUNT, FEATURES, TARHUSPO_MOST_STEPS);
+    check("run of the rest", r.status);
+    printf("     %" PRIu64 " more, %" PRIu64 " bytes on\n", r.steps, r.place);
+}
+
+static void build(const uint8_t *code, size_t code_len, uint16_t map[TARHUSPO_MAP_SIZE])
+{
+    tarhuspo_built b = tarhuspo_bytemap_build(code, code_len, masks, TARHUSPO_MASK_COUNT, FEATURES,
+                                              map, TARHUSPO_MAP_SIZE);
+
+    check("build", b.status);
+}
+
+/* A map does to any registers what its list does, and two maps compose to that of both lists. */
+static void maps(void)
+{
+    static uint16_t once[TARHUSPO_MAP_SIZE], twice[TARHUSPO_MAP_SIZE], both[TARHUSPO_MAP_SIZE];
+    static uint8_t mapped[TARHUSPO_FILE_SIZE];
+
+    build(list, sizeof list, once);
+    build(list_twice, sizeof list_twice, twice);
+    printf("map: entries of register 1 for byte 0: %u, for byte 16: %u\n", once[64], once[80]);
+
+    memcpy(mapped, file, sizeof file);
+    check("apply", tarhuspo_bytemap_apply(once, TARHUSPO_MAP_SIZE, mapped, sizeof mapped));
+    check("run", tarhuspo_run(list, sizeof list, file, sizeof file, masks, TARHUSPO_MASK_COUNT,
+                              FEATURES, TARHUSPO_MOST_STEPS).status);
+    expect("applying leaves what running does", memcmp(mapped, file, sizeof file) == 0);
+    check("compose", tarhuspo_bytemap_compose(once, TARHUSPO_MAP_SIZE, once, TARHUSPO_MAP_SIZE,
+                                              both, TARHUSPO_MAP_SIZE));
+    expect("composed maps are the map of both lists", memcmp(both, twice, sizeof both) == 0);
+
+    both[7] = TARHUSPO_MAP_ZERO + 1;
+    printf("     an entry of 2049: status %" PRIu32 "\n",
+           tarhuspo_bytemap_apply(both, TARHUSPO_MAP_SIZE, file, sizeof file));
+}
+
+/* The text of a listing is not terminated: written says where it ends. */
+static void listing(void)
+{
+    static uint8_t text[TARHUSPO_TEXT_SIZE];
+    tarhuspo_listed l = tarhuspo_listing(list_twice, sizeof list_twice - 1, text, sizeof text);
+
+    check("listing", l.status);
+    printf("listing: %" PRIu64 " bytes\n", l.written);
+    fwrite(text, 1, (size_t)l.written, stdout);
+}
+
+int main(void)
+{
+    fill_registers();
+    step(decode());
+    run();
+    maps();
+    listing();
+    return EXIT_SUCCESS;
+}
