@@ -1,5 +1,20 @@
 //! Sizes and limits of the library. A buffer of another size is refused with status 1 (a text only if
 //! it is smaller), a list of instructions above its limit with status 8.
+//!
+//! ```
+//! use tarhuspo::limits::{CODE_LIMIT, FILE_SIZE, MASK_COUNT, MOST_STEPS};
+//! use tarhuspo::{features, run};
+//!
+//! // vunpcklps xmm1, xmm2, xmm3: with 4 bytes, no instruction is shorter.
+//! let mut code = [0xC5, 0xE8, 0x14, 0xCB].repeat(CODE_LIMIT / 4);
+//! let (mut file, masks) = ([0; FILE_SIZE], [0; MASK_COUNT]);
+//! let ran = run(&code, &mut file, &masks, features::ALL, MOST_STEPS);
+//! assert_eq!((ran.steps, ran.place, ran.status), (1_024, 4_096, 0));
+//!
+//! code.push(0xC5);
+//! assert_eq!(run(&code, &mut file, &masks, features::ALL, MOST_STEPS).status, 8);
+//! assert_eq!(run(&code, &mut file[1..], &masks, features::ALL, MOST_STEPS).status, 1);
+//! ```
 
 /// Bytes of the register file: 32 registers of 64 bytes.
 pub const FILE_SIZE: usize = 2_048;
