@@ -32,9 +32,9 @@ impl Inputs {
     /// A list of instructions. Of one that is too long, enough is read for the library to refuse it.
     pub fn code(&mut self, word: &OsStr) -> Result<Vec<u8>, String> {
         if !self.is_hex && inline(word).is_none() {
-            return self.read(word, CODE_LIMIT);
+            return self.read(word, CODE_LIMIT).map_err(|e| hinting(e, word));
         }
-        let text = self.text(word)?;
+        let text = self.text(word).map_err(|e| hinting(e, word))?;
         hex::bytes(&text).map_err(|odd| odd_group("pairs of hex digits", &odd, word))
     }
 
@@ -112,10 +112,21 @@ fn inline(word: &OsStr) -> Option<&str> {
     word.to_str()?.strip_prefix(INLINE)
 }
 
+/// Says what to write, if a file's name looks like bytes that somebody has pasted.
+fn hinting(message: String, word: &OsStr) -> String {
+    let text = word.to_string_lossy();
+    match hex::bytes(&text) {
+        Ok(bytes) if !bytes.is_empty() => {
+            format!("{message} (bytes are written {INLINE}{})", shortened(&text))
+        }
+        _ => message,
+    }
+}
+
 /// Bytes that stand in the arguments, as a command without files takes them.
 pub fn bytes(word: &OsStr) -> Result<Vec<u8>, String> {
     let text = word.to_string_lossy();
-    let found = hex::bytes(&text);
+    let found = hex::bytes(text.strip_prefix(INLINE).unwrap_or(&text));
     found.map_err(|odd| expected("pairs of hex digits", odd.group))
 }
 

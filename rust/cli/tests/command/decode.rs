@@ -94,6 +94,7 @@ fn bytes_may_be_written_in_several_ways() {
         &["decode", "C5", "F9", "70", "CA", "1B"][..],
         &["decode", " C5 F9\t70", "CA1B "],
         &["decode", "0xC5F970CA1B"],
+        &["decode", "hex:C5F970CA1B"],
         &["decode", "0XC5 0xF9 70", "", "0xCA1b"],
         &["decode", "--features", "31", "C5F970CA1B"],
         &["decode", "C5F9", "--features=avx", "70CA1B"],

@@ -1,9 +1,11 @@
 //! Files are replaced whole, or not at all.
 
-use crate::tools::{assert_bad_usage, command, printed, ran, registers, run, Folder};
+use crate::tools::{assert_bad_usage, command, printed, printed_bytes, ran, registers, Folder};
 use crate::usage::full_device;
-use std::fs::{self, Permissions};
-use std::os::unix::fs::{symlink, PermissionsExt};
+use std::fs::{self, File, Permissions};
+use std::io::Read;
+use std::os::unix::fs::{symlink, FileTypeExt, PermissionsExt};
+use std::process::Command;
 
 const BUILD: [&str; 4] = ["map", "build", "hex:C5F970CA1B", "--out"];
 
@@ -42,17 +44,26 @@ fn a_link_stays_and_its_file_is_replaced() {
     assert_eq!(folder.names(), ["file.map", "link.map"]);
 }
 
-/// A device cannot be replaced by a file, and must not be.
+/// What is no file, such as a pipe or a device, must not be replaced by one.
 #[test]
-fn a_device_is_written_to() {
-    assert_eq!(printed(&build_to("/dev/null")), "");
-    let kind = fs::metadata("/dev/null").expect("the device").file_type();
-    assert!(!kind.is_file());
-    if full_device().is_some() {
-        let (status, out, err) = run(&build_to("/dev/full"));
-        assert_eq!((status, out.as_str()), (Some(2), ""));
-        assert!(err.starts_with("tarhuspo: expected a writable file, not '/dev/full': "));
+fn a_pipe_is_written_to() {
+    let folder = Folder::new("files_pipe");
+    let pipe = folder.path("pipe");
+    let made = Command::new("mkfifo").arg(&pipe).status();
+    if !made.is_ok_and(|status| status.success()) {
+        println!("skipped: this system makes no named pipes");
+        return;
     }
+    // Open for both, so that neither side waits for the other.
+    let mut reader = File::options().read(true).write(true).open(&pipe);
+    assert_eq!(printed(&build_to(&pipe)), "");
+    let kind = fs::metadata(&pipe).expect("the pipe").file_type();
+    assert!(kind.is_fifo());
+    let mut map = [0; 4_096];
+    let read = reader.as_mut().map(|pipe| pipe.read_exact(&mut map));
+    assert!(matches!(read, Ok(Ok(()))));
+    assert_eq!(map[..], printed_bytes(&BUILD[..3]));
+    assert_eq!(folder.names(), ["pipe"]);
 }
 
 #[test]

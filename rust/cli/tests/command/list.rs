@@ -77,6 +77,11 @@ fn bad_input_is_one_line() {
         "expected a readable file, not '{missing}': No such file or directory (os error 2)"
     );
     assert_bad_usage(&["list", &missing], &message);
+    // Somebody has pasted the bytes.
+    let message = "expected a readable file, not 'C5F970CA1B': No such file or directory \
+                   (os error 2) (bytes are written hex:C5F970CA1B)";
+    assert_bad_usage(&["list", "C5F970CA1B"], message);
+    assert_bad_usage(&["list", "--hex", "C5F970CA1B"], message);
     let (status, out, err) = run(&["list", &folder.path("")]);
     assert_eq!((status, out.as_str()), (Some(2), ""));
     assert!(err.contains("Is a directory") && err.lines().count() == 1);
