@@ -35,13 +35,14 @@ fn text_and_picture_come_together() {
     assert_eq!(folder.names(), ["some.map", "some.svg"]);
 }
 
-/// A map with all kinds of entries: every third byte stays, every seventh is zero.
+/// A map with all kinds of entries: every third byte stays, every seventh is zero, and the others
+/// move alone or in pairs.
 fn mixed() -> Vec<(usize, u16)> {
     let moved = (0..2_048).filter(|place| place % 3 != 0);
     moved
         .map(|place| match place % 7 {
             0 => (place, 2_048),
-            _ => (place, (place * 37 % 2_048) as u16),
+            _ => (place, ((place + 37 * (place / 8) + 5) % 2_048) as u16),
         })
         .collect()
 }
