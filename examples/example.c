@@ -66,8 +66,8 @@ static uint32_t decode(void)
     check("decode", d.status);
     printf("decode: mnemonic %" PRIu32 " of %" PRIu32 " bits, %" PRIu32 " bytes long\n", d.mnemonic,
            d.bits, d.length);
-    printf("        destination %" PRIu32 ", opmask %" PRIu32 ", wants %" PRIu32 " bytes of memory\n",
-           d.destination, d.mask, d.memory);
+    printf("        destination %" PRIu32 ", opmask %" PRIu32 ", ", d.destination, d.mask);
+    printf("wants %" PRIu32 " bytes of memory\n", d.memory);
     printf("        without the last byte: status %" PRIu32 "\n", cut.status);
     return d.memory;
 }

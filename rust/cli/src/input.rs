@@ -14,7 +14,6 @@ const INLINE: &str = "hex:";
 const TEXT_LIMIT: usize = 1 << 20;
 
 /// Reads inputs, standard input at most once.
-#[derive(Default)]
 pub struct Inputs {
     /// Files of code are hex text.
     is_hex: bool,
@@ -29,7 +28,8 @@ impl Inputs {
         }
     }
 
-    /// A list of instructions. Of one that is too long, enough is read for the library to refuse it.
+    /// A list of instructions. Of one that is too long, as much is read as the library needs to
+    /// refuse it.
     pub fn code(&mut self, word: &OsStr) -> Result<Vec<u8>, String> {
         if !self.is_hex && inline(word).is_none() {
             return self.read(word, CODE_LIMIT).map_err(|e| hinting(e, word));

@@ -69,8 +69,8 @@ fn finish(answer: Answer) -> Result<ExitCode, Failure> {
     if let Some(file) = file {
         file.put_in_place()?;
     }
-    Ok(match answer.is_refused {
-        true => ExitCode::from(REFUSED),
-        false => ExitCode::SUCCESS,
-    })
+    if answer.is_refused {
+        return Ok(ExitCode::from(REFUSED));
+    }
+    Ok(ExitCode::SUCCESS)
 }

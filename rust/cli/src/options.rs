@@ -131,17 +131,14 @@ fn option(word: &OsStr) -> Option<&str> {
 fn unknown(known: &[Known], given: &str) -> String {
     let names: Vec<_> = known.iter().map(|option| option.name).collect();
     match names[..] {
-        [] => expected("no option", given),
         [name] => expected(&format!("no option but {name}"), given),
         _ => expected(&format!("an option among {}", names.join(", ")), given),
     }
 }
 
 pub fn asks_for_help(words: &[OsString]) -> bool {
-    let options = words.iter().take_while(|word| *word != "--");
-    options
-        .into_iter()
-        .any(|word| word == "--help" || word == "-h")
+    let mut options = words.iter().take_while(|word| *word != "--");
+    options.any(|word| word == "--help" || word == "-h")
 }
 
 /// An error that quotes what was given, on one line and not too long.

@@ -7,8 +7,8 @@ use std::fs::{self, File, Metadata};
 use std::io::{self, ErrorKind, IsTerminal, Write};
 use std::path::{Path, PathBuf};
 
-/// Prints what a command says. A reader that has closed the pipe has seen what it wanted, so that is
-/// no failure.
+/// Prints what a command says. A reader that has closed the pipe has seen what it wanted: that is no
+/// failure.
 pub fn print(text: &[u8]) -> Result<(), String> {
     let mut out = io::stdout().lock();
     match out.write_all(text).and_then(|()| out.flush()) {

@@ -52,7 +52,7 @@ pub fn svg(runs: &[Run]) -> String {
     lines.extend((0..REGISTER_SIZE).step_by(4).map(column_heading));
     lines.extend((0..REGISTERS).map(row_heading));
     lines.extend((0..REGISTERS).map(|register| row(register, runs, cells)));
-    // Behind all cells, so that no cell covers a part of a frame.
+    // After all cells, so that none covers a part of a frame.
     lines.extend((0..REGISTERS).map(|register| row(register, runs, frames)));
     lines.extend(legend());
     lines.extend(keys);

@@ -23,7 +23,8 @@ fn report_states_sizes_with_their_units() {
         "\nprocessor: ",
         "\nforms skipped: ",
         "\nsteps compared: 1500 carried out, 500 refused with #UD\n",
-        "\ncompared after each: 2048 register bytes (32 registers of 64 bytes), 8 opmasks of 64 bits",
+        "\ncompared after each: 2048 register bytes (32 registers of 64 bytes), ",
+        " 8 opmasks of 64 bits,\n",
         " status, length in bytes, the memory operand, the guard bytes ",
         "\nno difference\n",
     ];

@@ -89,7 +89,7 @@ pub fn at_terminal(arguments: &str) -> Option<(Option<i32>, String)> {
     let line = format!("'{}' {arguments}", env!("CARGO_BIN_EXE_tarhuspo"));
     let mut script = Command::new("script");
     let started = script
-        .args(["--quiet", "--return", "--command", &line, "/dev/null"])
+        .args(["-qec", &line, "/dev/null"])
         .stdin(Stdio::null())
         .output();
     match started {
