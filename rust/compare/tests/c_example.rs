@@ -8,9 +8,7 @@ use std::path::Path;
 #[test]
 fn example_prints_what_is_written_beside_it() {
     let examples = Path::new(compiler::INCLUDE).join("../examples");
-    let Some(printed) = compiler::printed(&examples.join("example.c"), "c_example") else {
-        return;
-    };
+    let printed = compiler::printed(&examples.join("example.c"), "c_example");
     let expected = std::fs::read_to_string(examples.join("example.txt"));
     assert_eq!(printed, expected.expect("what the example prints"));
 }

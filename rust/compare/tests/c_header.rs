@@ -9,9 +9,7 @@ use std::path::{Path, PathBuf};
 #[test]
 fn c_program_runs_against_the_archive() {
     let source = Path::new(env!("CARGO_MANIFEST_DIR")).join("tests/c/header.c");
-    let Some(printed) = printed(&source, "c_header") else {
-        return;
-    };
+    let printed = printed(&source, "c_header");
     let expected = "accepted: 0 6 8 1 256 1 17 9 0 3 1 1 0 0\n\
                     too short: 2 0 0 0 0 0 0 0 0 0 0 0 0 0\n\
                     empty: 2 0 0 0 0 0 0 0 0 0 0 0 0 0\n\

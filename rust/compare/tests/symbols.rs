@@ -2,7 +2,6 @@
 //! outside that the header names.
 
 use std::collections::BTreeSet;
-use std::io::ErrorKind;
 use std::path::Path;
 use std::process::Command;
 
@@ -46,19 +45,13 @@ fn needed() -> Names {
     list.split(", ").map(str::to_string).collect()
 }
 
-/// Defined and undefined global symbols of the archive; none if the system has no `nm`.
-fn symbols() -> Option<(Names, Names)> {
+/// Defined and undefined global symbols of the archive.
+fn symbols() -> (Names, Names) {
     let mut nm = Command::new("nm");
     let output = nm
         .args(["--extern-only", "--format=posix", env!("TARHUSPO_ARCHIVE")])
-        .output();
-    let output = match output {
-        Err(e) if e.kind() == ErrorKind::NotFound => {
-            println!("skipped: this system has no `nm`");
-            return None;
-        }
-        output => output.expect("`nm` starts"),
-    };
+        .output()
+        .expect("`nm` of the system's binutils");
     assert!(output.status.success(), "{output:?}");
     let text = String::from_utf8(output.stdout).expect("UTF-8");
     let (mut defined, mut undefined) = (Names::new(), Names::new());
@@ -71,22 +64,18 @@ fn symbols() -> Option<(Names, Names)> {
             _ => continue,
         };
     }
-    Some((defined, undefined))
+    (defined, undefined)
 }
 
 #[test]
 fn archive_defines_the_functions_of_the_header() {
-    let Some((defined, _)) = symbols() else {
-        return;
-    };
+    let (defined, _) = symbols();
     assert_eq!(defined, declared());
 }
 
 #[test]
 fn archive_needs_what_the_header_says() {
-    let Some((defined, undefined)) = symbols() else {
-        return;
-    };
+    let (defined, undefined) = symbols();
     let outside: Names = undefined.difference(&defined).cloned().collect();
     assert_eq!(outside, needed());
 }
