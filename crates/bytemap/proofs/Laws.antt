@@ -19,12 +19,12 @@ use Rattle.moves.specs.Origin.{bitsOf, originOf}
 use Rattle.moves.specs.Moved.{held, registerAt, firstRegister, thirdPart, repeated, controlOf, entryOf, placed, moved}
 use Rattle.moves.specs.Mappable.{mappable}
 use Rattle.moves.proofs.Laws.{length-moved, moved-at, mappable-moves}
+use Rattle.moves.proofs.Placed.{part-entry}
 use Rattle.moves.specs.declared.Origin.{Origin}
 use Rattle.run.specs.Run.{filesOf}
 use Rattle.bytemap.specs.ByteMap.{fine, readByte, readEntry, applied, composed}
 use Rattle.bytemap.specs.Build.{identity, movedMap, mapsOf}
 use Rattle.bytemap.specs.Inner.{entryIn}
-use Rattle.bytemap.proofs.Rules.{part-entry}
 
 -- every instruction can be said by a map
 abbrev pub AllMapped : List Instruction → Type 0
@@ -77,7 +77,7 @@ abbrev pub Low : List ℕ → Type 0
 Low m = (p : ℕ) → getD m p zeroEntry ≤ zeroEntry
 
 third-low : (t : Third) (m : List ℕ) → length m ≡ mapEntries → Low m → (j : ℕ) → repeated zeroEntry (thirdPart t [] m) j ≤ zeroEntry
-third-low (Third.Register r) m e h j = rw (part-entry m r j e) (h (offsetOf r j .0))
+third-low (Third.Register r) m e h j = rw (part-entry zeroEntry m r j e) (h (offsetOf r j .0))
 third-low (Third.Memory bytes) m e h j = le-refl zeroEntry
 
 held-low : (f t : ℕ → ℕ) (k : ℕ) (o : Origin) → ((j : ℕ) → f j ≤ zeroEntry) → ((j : ℕ) → t j ≤ zeroEntry) → k ≤ zeroEntry → held zeroEntry f t k o ≤ zeroEntry

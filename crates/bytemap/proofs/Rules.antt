@@ -1,14 +1,13 @@
 -- What each function on a map's entries gives, by what its callees gave.
-use Prim.Native.Nat.{ℕ, _+_, _%_, _<_}
+use Prim.Native.Nat.{ℕ, _%_}
 use mathlib.Core.Path.{_≡_, refl, _∙_, sym, ap}
 use mathlib.Core.Bool.{Bool, true, false}
 use mathlib.Core.List.{List, []}
 use native.Mathlib.Omega.{arith}
-use lib.ListN.{length, getD, take, drop, length-drop}
-use lib.Seq.{length-take-le, getD-take, getD-drop}
+use lib.ListN.{length, getD}
 use Rattle.seq.specs.Tabulate.{tabulate}
 use Rattle.seq.proofs.Tabulate.{getD-tabulate}
-use Rattle.isa.specs.Kinds.{registers, mapEntries, zeroEntry, offsetOf}
+use Rattle.isa.specs.Kinds.{registers, mapEntries, zeroEntry}
 use Rattle.isa.specs.declared.kinds.Reg.{Reg}
 use Rattle.decode.specs.declared.instruction.Third.{Third}
 use Rattle.decode.specs.declared.instruction.Instruction.{Instruction}
@@ -16,22 +15,14 @@ use Rattle.moves.specs.Pick.{moveOf, immediateByte}
 use Rattle.moves.specs.Origin.{bitsOf, originOf}
 use Rattle.moves.specs.Moved.{registerAt, firstRegister, thirdPart, repeated, controlBy, controlOf, entryOf, placed, moved}
 use Rattle.moves.specs.Mappable.{byImmediate}
-use Rattle.moves.proofs.Placed.{placed-ext}
+use Rattle.moves.proofs.Placed.{part-entry, placed-ext}
 use Rattle.moves.specs.declared.Move.{Move}
 use Rattle.moves.specs.declared.Origin.{Origin}
 use Rattle.bytemap.specs.Build.{movedMap}
 use Rattle.bytemap.specs.Inner.{entryIn}
 
-pub part-entry : (m : List ℕ) (r : Reg) (j : ℕ) → length m ≡ mapEntries → repeated zeroEntry (take 64 (drop (offsetOf r 0 .0) m)) j ≡ registerAt zeroEntry m r j
-part-entry m r j e =
-    let off = offsetOf r 0 .0 in
-    let n : length (take 64 (drop off m)) ≡ 64 = length-take-le 64 (drop off m) (omega (arith, length-drop off m)) in
-    let b : j % 64 < 64 = omega arith in
-    let k : off + j % 64 ≡ offsetOf r j .0 = omega arith in
-    rw (n, getD-take 64 (drop off m) (j % 64) zeroEntry b, getD-drop off m (j % 64) zeroEntry, k)
-
 pub third-register : (m : List ℕ) (t : Third) (r : Reg) (j e : ℕ) → length m ≡ mapEntries → t ≡ Third.Register r → e ≡ registerAt zeroEntry m r j → e ≡ repeated zeroEntry (thirdPart t [] m) j
-third-register m t r j e l p q = q ∙ rw p (sym (part-entry m r j l))
+third-register m t r j e l p q = q ∙ rw p (sym (part-entry zeroEntry m r j l))
 
 module _ (k : Move) (m : ℕ) where
   by-true : byImmediate k ≡ true → m ≡ controlBy k m 0 0

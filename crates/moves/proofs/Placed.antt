@@ -1,16 +1,27 @@
--- A file with 64 new entries in one register: which entries are new, which are the old ones, and when two such files are equal.
+-- A register in a file: its entries as a part of the file; and a file with 64 new entries in one register, which of its entries are new, which are the
+-- old ones, and when two such files are equal.
 use Prim.Native.Nat.{ℕ, _+_, _*_, _/_, _%_, _<_}
-use mathlib.Core.Path.{_≡_, sym, _∙_, ap}
-use mathlib.Core.Bool.{Bool, true, false}
-use mathlib.Core.List.{List, map}
+use mathlib.Core.Path.{_≡_, ap}
+use mathlib.Core.List.{List}
 use native.Mathlib.Omega.{arith}
 use lib.Dec.{eqb}
-use lib.ListN.{length, getD, List·getD-map}
+use lib.ListN.{length, getD, take, drop, length-drop}
+use lib.Seq.{length-take-le, getD-take, getD-drop}
 use borrow.Author.Tests.{eq-eqb, ne-eqb}
 use Rattle.seq.specs.Choice.{if_then_else_}
 use Rattle.seq.specs.Tabulate.{tabulate}
 use Rattle.seq.proofs.Tabulate.{tabulate-ext}
-use Rattle.moves.specs.Moved.{placed}
+use Rattle.isa.specs.Kinds.{fileSize, registerBytes, offsetOf}
+use Rattle.isa.specs.declared.kinds.Reg.{Reg}
+use Rattle.moves.specs.Moved.{registerAt, repeated, placed}
+
+pub part-entry : {A : Type 0} (z : A) (file : List A) (r : Reg) (j : ℕ) → length file ≡ fileSize → repeated z (take registerBytes (drop (offsetOf r 0 .0) file)) j ≡ registerAt z file r j
+part-entry z file r j e =
+    let off = offsetOf r 0 .0 in
+    let n : length (take 64 (drop off file)) ≡ 64 = length-take-le 64 (drop off file) (omega (arith, length-drop off file)) in
+    let b : j % 64 < 64 = omega arith in
+    let k : off + j % 64 ≡ offsetOf r j .0 = omega arith in
+    rw (n, getD-take 64 (drop off file) (j % 64) z b, getD-drop off file (j % 64) z, k)
 
 module _ {A : Type 0} (z : A) (file : List A) (r : ℕ) (new : ℕ → A) where
   pub placed-in : (i : ℕ) → i < 64 → placed z file r new (64 * r + i) ≡ new i
