@@ -195,7 +195,8 @@ pub fn mask_bits(masks: &[u64], mask: Mask) -> u64
     0
 }
 
-fn is_written(bits: u64, j: u8) -> bool
+// Whether element j is let through.
+pub fn is_written(bits: u64, j: u8) -> bool
     ensures { λ r. ⌜ r ≡ written bits j ⌝ }
 {
     if j < 64 { (bits >> j) % 2 == 1 } else { false }

@@ -1,14 +1,13 @@
 -- What each function of the step gives, by what its callees gave: a rule for each way it can return.
-use Prim.Native.Nat.{ℕ, _+_, _-_, _*_, _/_, _%_, _<_, _≤_}
-use mathlib.Core.Path.{_≡_, refl, _∙_, sym, ap}
-use mathlib.Core.List.{List, []}
+use Prim.Native.Nat.{ℕ, _+_, _-_, _*_, _%_, _<_, _≤_}
+use mathlib.Core.Path.{_≡_, _∙_, sym, ap}
+use mathlib.Core.List.{List}
 use native.Mathlib.Omega.{arith}
 use native.Mathlib.Nat.{mod-eq-of-lt}
 use lib.ListN.{length, getD, take, drop, List·getD-eq-default}
 use borrow.Author.Tests.{eq-eqb, ne-eqb}
 use Rattle.seq.specs.Tabulate.{tabulate}
 use Rattle.isa.specs.Kinds.{registers, fileSize, maskCount, offsetOf}
-use Rattle.isa.specs.Operands.{elementBytes}
 use Rattle.isa.specs.declared.kinds.Reg.{Reg}
 use Rattle.isa.specs.declared.kinds.Offset.{Offset}
 use Rattle.isa.specs.declared.refusal.Refusal.{Refusal}
@@ -18,14 +17,14 @@ use Rattle.decode.specs.Decode.{decodeOf}
 use Rattle.decode.specs.declared.instruction.Third.{Third}
 use Rattle.decode.specs.declared.instruction.Instruction.{Instruction}
 use Rattle.decode.specs.declared.instruction.Decoded.{Decoded}
-use Rattle.moves.specs.Pick.{moveOf, immediateByte}
-use Rattle.moves.specs.Origin.{bitsOf, originOf}
-use Rattle.moves.specs.Moved.{registerAt, firstRegister, thirdPart, repeated, controlOf, entryOf, placed, moved}
+use Rattle.moves.specs.Pick.{pickOf}
+use Rattle.moves.specs.Origin.{bitsOf}
+use Rattle.moves.specs.Moved.{registerAt, thirdPart, repeated, controlBy, placed, moved}
 use Rattle.moves.proofs.Placed.{placed-ext}
 use Rattle.moves.specs.declared.Move.{Move}
 use Rattle.moves.specs.declared.Origin.{Origin}
 use Rattle.step.specs.Step.{executedOf, executedFile, stepOf, fileAfter}
-use Rattle.step.specs.Inner.{controlByte, byteOf, originAt, elementOrigin, byteFrom, lanesOf, laneByte, refusedOf}
+use Rattle.step.specs.Inner.{registerPart, byteOf, lanesOf, laneByte, refusedOf}
 use Rattle.step.specs.declared.Stepped.{Stepped}
 use Rattle.step.proofs.FourLanes.{lanes-at}
 
@@ -44,11 +43,13 @@ register-read z file r i n b o p q e = e ∙ ap (λ (k : ℕ). getD file k z) (o
 pub part-fits : (file : List ℕ) (r : Reg) (n : ℕ) (o : Offset) → o ≡ offsetOf r 0 → n ≡ o .0 → length file ≡ fileSize → n + 64 ≤ length file
 part-fits file r n o p q e = omega (arith, offset-is r 0 n o p q)
 
-pub part-is : (t : Third) (memory file part : List ℕ) (r : Reg) (n : ℕ) (o : Offset) → t ≡ Third.Register r → o ≡ offsetOf r 0 → n ≡ o .0
-    → part ≡ take (n + 64 - n) (drop n file) → part ≡ thirdPart t memory file
-part-is t memory file part r n o k p q e =
+pub part-is : (file part : List ℕ) (r : Reg) (n : ℕ) (o : Offset) → o ≡ offsetOf r 0 → n ≡ o .0 → part ≡ take (n + 64 - n) (drop n file) → part ≡ registerPart r file
+part-is file part r n o p q e =
     let w : n + 64 - n ≡ 64 = omega arith in
-    e ∙ rw (w, offset-is r 0 n o p q, k)
+    e ∙ rw (w, offset-is r 0 n o p q)
+
+pub third-register : (t : Third) (memory file part : List ℕ) (r : Reg) → t ≡ Third.Register r → part ≡ registerPart r file → part ≡ thirdPart t memory file
+third-register t memory file part r k e = e ∙ rw k
 
 pub repeated-within : (part : List ℕ) (j : ℕ) → j < length part → getD part j 0 ≡ repeated 0 part j
 repeated-within part j h = rw (mod-eq-of-lt h)
@@ -56,55 +57,24 @@ repeated-within part j h = rw (mod-eq-of-lt h)
 pub repeated-none : (part : List ℕ) (j : ℕ) → length part ≡ 0 → 0 ≡ repeated 0 part j
 repeated-none part j h = sym (List·getD-eq-default part 0 (omega arith))
 
-module _ (x : Instruction) (part file : List ℕ) (i n s : ℕ) (pn : n ≡ elementBytes (x .element)) (kind : Move) (pk : kind ≡ moveOf (x .mnemonic) (x .immediate)) where
-  pub control-third : kind ≡ Move.LaneByThird → (r : ℕ) → r ≡ repeated 0 part (i - i % n) → r ≡ controlByte x part file i
-  unfolding controlOf
-  control-third q r e = e ∙ rw (← pk, q, pn)
+module _ (kind : Move) (immediate first third r : ℕ) where
+  pub control-third : kind ≡ Move.LaneByThird → r ≡ third → r ≡ controlBy kind immediate first third
+  control-third q e = e ∙ rw q
 
-  pub control-first : kind ≡ Move.AnyByFirst → (f : Reg) → f ≡ firstRegister (x .first) → (r : ℕ) → r ≡ registerAt 0 file f (i - i % n) → r ≡ controlByte x part file i
-  unfolding controlOf
-  control-first q f p r e = e ∙ rw (← pk, q, p, pn)
+  pub control-first : kind ≡ Move.AnyByFirst → r ≡ first → r ≡ controlBy kind immediate first third
+  control-first q e = e ∙ rw q
 
-  pub control-immediate : kind ≡ Move.LaneByImmediate → (r : ℕ) → r ≡ immediateByte (x .immediate) → r ≡ controlByte x part file i
-  unfolding controlOf
-  control-immediate q r e = e ∙ rw (← pk, q)
+  pub control-immediate : kind ≡ Move.LaneByImmediate → r ≡ immediate → r ≡ controlBy kind immediate first third
+  control-immediate q e = e ∙ rw q
 
-  pub control-unpack : kind ≡ Move.UnpackLow → (r : ℕ) → r ≡ immediateByte (x .immediate) → r ≡ controlByte x part file i
-  unfolding controlOf
-  control-unpack q r e = e ∙ rw (← pk, q)
+  pub control-unpack : kind ≡ Move.UnpackLow → r ≡ immediate → r ≡ controlBy kind immediate first third
+  control-unpack q e = e ∙ rw q
 
-  pub control-lane : kind ≡ Move.LaneOrZero → (r : ℕ) → r ≡ immediateByte (x .immediate) → r ≡ controlByte x part file i
-  unfolding controlOf
-  control-lane q r e = e ∙ rw (← pk, q)
+  pub control-lane : kind ≡ Move.LaneOrZero → r ≡ immediate → r ≡ controlBy kind immediate first third
+  control-lane q e = e ∙ rw q
 
-pub origin-found : (x : Instruction) (bits : ℕ) (part file : List ℕ) (i c : ℕ) (r : Origin) → c ≡ controlByte x part file i → r ≡ originOf x bits c i → r ≡ originAt x bits part file i
-origin-found x bits part file i c r p e = e ∙ rw p
-
-module _ (x : Instruction) (bits : ℕ) (part file : List ℕ) (found : Origin) (i n : ℕ) (pn : n ≡ elementBytes (x .element)) where
-  pub element-first : i % n ≡ 0 → (r : Origin) → r ≡ originAt x bits part file i → r ≡ elementOrigin x bits part file found i
-  unfolding elementOrigin
-  element-first h r e = rw (← pn, eq-eqb (i % n) 0 h) e
-
-  pub element-other : (i % n ≡ 0 → ⊥) → found ≡ elementOrigin x bits part file found i
-  unfolding elementOrigin
-  element-other h = rw (← pn, ne-eqb (i % n) 0 h)
-
-module _ (x : Instruction) (part file : List ℕ) (from : Origin) (i n : ℕ) (pn : n ≡ elementBytes (x .element)) where
-  pub byte-first : (j : ℕ) → from ≡ Origin.First j → (f : Reg) → f ≡ firstRegister (x .first) → (r : ℕ) → r ≡ registerAt 0 file f (j + i % n) → r ≡ byteFrom x part file from i
-  unfolding byteFrom
-  byte-first j q f p r e = e ∙ rw (q, p, pn)
-
-  pub byte-third : (j : ℕ) → from ≡ Origin.Third j → (r : ℕ) → r ≡ repeated 0 part (j + i % n) → r ≡ byteFrom x part file from i
-  unfolding byteFrom
-  byte-third j q r e = e ∙ rw (q, pn)
-
-  pub byte-zero : from ≡ Origin.Zero → 0 ≡ byteFrom x part file from i
-  unfolding byteFrom
-  byte-zero q = rw q
-
-  pub byte-kept : from ≡ Origin.Kept → (r : ℕ) → r ≡ registerAt 0 file (x .destination) i → r ≡ byteFrom x part file from i
-  unfolding byteFrom
-  byte-kept q r e = e ∙ rw q
+pub picked-by : (kind : Move) (n v c d i : ℕ) (r : Origin) → c ≡ d → r ≡ pickOf kind n v c i → r ≡ pickOf kind n v d i
+picked-by kind n v c d i r p e = e ∙ rw p
 
 pub refused-no : (d : Decoded) (why : Refusal) → d ≡ Decoded.Refused why → Stepped.Refused why ≡ refusedOf d
 refused-no d why p = rw p

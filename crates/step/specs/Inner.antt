@@ -1,36 +1,57 @@
 -- What the contracts of the step's inner functions say: the way in which the code works. No public promise cites these, so that nobody has to believe them.
 use Prim.Native.Nat.{ℕ, _+_, _*_, _/_, _%_}
 use mathlib.Core.List.{List, []}
-use lib.Dec.{eqb}
-use lib.ListN.{length, getD}
-use Rattle.seq.specs.Choice.{if_then_else_}
+use lib.ListN.{getD, take, drop}
 use Rattle.seq.specs.Tabulate.{tabulate}
+use Rattle.isa.specs.Kinds.{registerBytes, offsetOf}
+use Rattle.isa.specs.Operands.{widthBytes, elementBytes}
+use Rattle.isa.specs.declared.kinds.Reg.{Reg}
 use Rattle.decode.specs.declared.instruction.Instruction.{Instruction}
 use Rattle.decode.specs.declared.instruction.Decoded.{Decoded}
-use Rattle.isa.specs.Operands.{elementBytes}
-use Rattle.moves.specs.Origin.{originOf, shifted}
-use Rattle.moves.specs.Moved.{held, registerAt, firstRegister, repeated, controlOf, entryOf}
+use Rattle.moves.specs.Pick.{moveOf, immediateByte, pickOf}
+use Rattle.moves.specs.Origin.{originOf}
+use Rattle.moves.specs.Moved.{held, repeated, controlBy, elementStart, entryOf}
+use Rattle.moves.specs.declared.Move.{Move}
 use Rattle.moves.specs.declared.Origin.{Origin}
+use Rattle.moves.specs.declared.Origin.the-variants.{First, Third, Zero, Kept}
 use Rattle.step.specs.declared.Stepped.{Stepped}
 
--- an entry and a control of a register file
+-- byte i of the destination
 abbrev pub byteOf : Instruction → ℕ → List ℕ → List ℕ → ℕ → ℕ
 byteOf = entryOf (λ b. b) 0
 
-abbrev pub controlByte : Instruction → List ℕ → List ℕ → ℕ → ℕ
-controlByte = controlOf (λ b. b) 0
+-- a register as a part of the file
+abbrev pub registerPart : Reg → List ℕ → List ℕ
+registerPart r file = take registerBytes (drop (offsetOf r 0 .0) file)
 
--- where byte i of the destination comes from, and the byte that the origin of its element gives
-abbrev pub originAt : Instruction → ℕ → List ℕ → List ℕ → ℕ → Origin
-originAt x bits part file i = originOf x bits (controlByte x part file i) i
+-- the control of the element that starts at byte i, by the kind of move, with the first source and the third operand as parts
+abbrev pub controlAt : Move → Instruction → List ℕ → List ℕ → ℕ → ℕ
+controlAt kind x first third i = controlBy kind (immediateByte (x .immediate)) (repeated 0 first i) (repeated 0 third i)
 
-unfoldable pub elementOrigin : Instruction → ℕ → List ℕ → List ℕ → Origin → ℕ → Origin
-elementOrigin x bits part file found i = if eqb (i % elementBytes (x .element)) 0 then originAt x bits part file i else found
+-- where that element comes from: in a full result, and under the mask
+abbrev pub pickAt : Move → Instruction → List ℕ → List ℕ → ℕ → Origin
+pickAt kind x first third i = pickOf kind (elementBytes (x .element)) (widthBytes (x .width)) (controlAt kind x first third i) i
 
-unfoldable pub byteFrom : Instruction → List ℕ → List ℕ → Origin → ℕ → ℕ
-byteFrom x part file from i =
-    held 0 (registerAt 0 file (firstRegister (x .first))) (repeated 0 part) (registerAt 0 file (x .destination) i)
-    (shifted (i % elementBytes (x .element)) from)
+abbrev pub originAt : Move → Instruction → ℕ → List ℕ → List ℕ → ℕ → Origin
+originAt kind x bits first third i = originOf x bits (controlAt kind x first third i) i
+
+-- the part and the place in it that an origin stands for; `kept` is the old destination
+abbrev pub originPart : Origin → List ℕ → List ℕ → List ℕ → List ℕ
+originPart (First j) first third kept = first
+originPart (Third j) first third kept = third
+originPart Zero first third kept = []
+originPart Kept first third kept = kept
+
+abbrev pub originPlace : Origin → ℕ → ℕ
+originPlace (First j) i = j
+originPlace (Third j) i = j
+originPlace Zero i = 0
+originPlace Kept i = i
+
+-- byte i of the destination, with its three sources as parts
+unfoldable pub partsByte : Instruction → ℕ → List ℕ → List ℕ → List ℕ → ℕ → ℕ
+partsByte x bits first third kept i =
+    held 0 (repeated 0 first) (repeated 0 third) (repeated 0 kept i) (originOf x bits (controlAt (moveOf (x .mnemonic) (x .immediate)) x first third (elementStart x i)) i)
 
 -- 64 bytes as four lanes, and back
 unfoldable pub lanesOf : (ℕ → ℕ) → List (List ℕ)

@@ -5,11 +5,14 @@ ghost use Prim.Native.Nat.{_+_, _*_, _/_, _%_, _<_};
 ghost use lib.ListN.{length, getD};
 ghost use Rattle.seq.specs.Tabulate.{tabulate};
 ghost use Rattle.isa.specs.Kinds.{registers, fileSize};
+ghost use Rattle.isa.specs.Operands.{widthBytes};
 ghost use Rattle.decode.specs.Decode.{decodeOf};
-ghost use Rattle.moves.specs.Moved.{registerAt, thirdPart, repeated, placed};
+ghost use Rattle.moves.specs.Pick.{moveOf, immediateByte};
+ghost use Rattle.moves.specs.Moved.{thirdPart, repeated, controlBy, placed};
 ghost use Rattle.step.specs.Step.{executedOf, executedFile, stepOf, fileAfter};
-ghost use Rattle.step.specs.Inner.{lanesOf, laneByte, controlByte, byteOf, originAt, elementOrigin, byteFrom, refusedOf};
+ghost use Rattle.step.specs.Inner.{registerPart, pickAt, originAt, originPart, originPlace, partsByte, byteOf, lanesOf, laneByte, refusedOf};
 use decode::instruction::Decoded;
+use decode::instruction::Immediate;
 use decode::instruction::Instruction;
 use decode::instruction::Third;
 use isa::features::Features;
@@ -20,7 +23,6 @@ use isa::kinds::RegisterFile;
 use isa::refusal::Refusal;
 use moves::Move;
 use moves::Origin;
-use seq::byte_at;
 
 pub enum Stepped {
     // The bytes of the instruction that was carried out.
@@ -28,11 +30,15 @@ pub enum Stepped {
     Refused(Refusal),
 }
 
-fn register_byte(file: &[u8], register: Reg, i: u32) -> u8
-    ensures { λ r. ⌜ r ≡ registerAt 0 (now (file .entry)) register i ⌝ }
+// A register's bytes, where they lie.
+fn register_part<'a>(register: Reg, file: &'a [u8]) -> &'a [u8]
+    requires { ⌜ length (now file) ≡ fileSize ⌝ }
+    ensures { λ r. ⌜ now r ≡ registerPart register (now (file .entry)) ⌝ }
 {
-    let at = Offset::of(register, i);
-    byte_at(file, at.number() as usize)
+    let at = Offset::of(register, 0);
+    let start = at.number() as usize;
+    let end = start + Reg::BYTES as usize;
+    &file[start..end]
 }
 
 // The third operand, where it lies.
@@ -41,12 +47,7 @@ fn third_part<'a>(third: Third, file: &'a [u8], memory: &'a [u8]) -> &'a [u8]
     ensures { λ r. ⌜ now r ≡ thirdPart third (now (memory .entry)) (now (file .entry)) ⌝ }
 {
     match third {
-        Third::Register(register) => {
-            let at = Offset::of(register, 0);
-            let start = at.number() as usize;
-            let end = start + Reg::BYTES as usize;
-            &file[start..end]
-        }
+        Third::Register(register) => register_part(register, file),
         Third::Memory(_) => memory,
     }
 }
@@ -65,92 +66,119 @@ fn repeated_byte(part: &[u8], j: u32) -> u8
     part[at % part.len()]
 }
 
-// The control of byte i.
-fn control(x: Instruction, part: &[u8], file: &[u8], i: u8) -> u8
-    ensures { λ r. ⌜ r ≡ controlByte x (now (part .entry)) (now (file .entry)) i ⌝ }
+// The control of the element that starts at byte i.
+fn control(kind: Move, immediate: Immediate, first: &[u8], third: &[u8], i: u8) -> u8
+    ensures { λ r. ⌜ r ≡ controlBy kind (immediateByte immediate) (repeated 0 (now (first .entry)) i) (repeated 0 (now (third .entry)) i) ⌝ }
 {
-    let mnemonic = x.mnemonic;
-    let immediate = x.immediate;
-    let element = x.element;
-    let first = x.first;
-    let kind = moves::move_of(mnemonic, immediate);
-    let start = (i - i % element.bytes()) as u32;
+    let start = i as u32;
     match kind {
-        Move::LaneByThird => repeated_byte(part, start),
-        Move::AnyByFirst => register_byte(file, moves::first_register(first), start),
+        Move::LaneByThird => repeated_byte(third, start),
+        Move::AnyByFirst => repeated_byte(first, start),
         Move::LaneByImmediate => moves::immediate_byte(immediate),
         Move::UnpackLow => moves::immediate_byte(immediate),
         Move::LaneOrZero => moves::immediate_byte(immediate),
     }
 }
 
-// Where byte i of the destination comes from.
-fn origin_at(x: Instruction, bits: u64, part: &[u8], file: &[u8], i: u8) -> Origin
-    ensures { λ r. ⌜ r ≡ originAt x bits (now (part .entry)) (now (file .entry)) i ⌝ }
+// Where the element that starts at byte i comes from in a full result.
+fn picked(x: Instruction, kind: Move, first: &[u8], third: &[u8], i: u8) -> Origin
+    ensures { λ r. ⌜ r ≡ pickAt kind x (now (first .entry)) (now (third .entry)) i ⌝ }
 {
-    let c = control(x, part, file, i);
-    moves::origin_of(x, bits, c, i)
+    let immediate = x.immediate;
+    let element = x.element;
+    let width = x.width;
+    let c = control(kind, immediate, first, third, i);
+    moves::pick(kind, element, width, c, i)
 }
 
-// The origin of byte i's element, which is looked for at the element's first byte alone.
-fn element_origin(
-    x: Instruction,
-    bits: u64,
-    part: &[u8],
-    file: &[u8],
-    found: Origin,
-    i: u8,
-) -> Origin
-    ensures { λ r. ⌜ r ≡ elementOrigin x bits (now (part .entry)) (now (file .entry)) found i ⌝ }
+// Where the element that starts at byte i comes from. The kind of move is found once a step, and the width is looked at
+// once a lane.
+fn origin_at(x: Instruction, kind: Move, bits: u64, first: &[u8], third: &[u8], i: u8) -> Origin
+    requires { ⌜ (kind ≡ moveOf (x .mnemonic) (x .immediate)) × (i < widthBytes (x .width)) ⌝ }
+    ensures { λ r. ⌜ r ≡ originAt kind x bits (now (first .entry)) (now (third .entry)) i ⌝ }
 {
     let element = x.element;
-    let k = i % element.bytes();
-    if k == 0 {
-        return origin_at(x, bits, part, file, i);
+    if moves::is_written(bits, i / element.bytes()) {
+        return picked(x, kind, first, third, i);
     }
-    found
+    if x.zeroing {
+        return Origin::Zero;
+    }
+    Origin::Kept
 }
 
-// Byte i of the destination, by the origin of its element.
-fn byte(x: Instruction, part: &[u8], file: &[u8], from: Origin, i: u8) -> u8
-    ensures { λ r. ⌜ r ≡ byteFrom x (now (part .entry)) (now (file .entry)) from i ⌝ }
+// An origin as a part, and as a place in it. Zero is a part with no bytes.
+fn origin_part<'a>(from: Origin, first: &'a [u8], third: &'a [u8], kept: &'a [u8]) -> &'a [u8]
+    ensures { λ r. ⌜ now r ≡ originPart from (now (first .entry)) (now (third .entry)) (now (kept .entry)) ⌝ }
 {
-    let first = x.first;
-    let destination = x.destination;
-    let element = x.element;
-    let k = (i % element.bytes()) as u32;
     match from {
-        Origin::First(j) => register_byte(file, moves::first_register(first), j as u32 + k),
-        Origin::Third(j) => repeated_byte(part, j as u32 + k),
-        Origin::Zero => 0,
-        Origin::Kept => register_byte(file, destination, i as u32),
+        Origin::First(_) => first,
+        Origin::Third(_) => third,
+        Origin::Zero => &kept[0..0],
+        Origin::Kept => kept,
     }
 }
 
-fn lane_bytes(x: Instruction, bits: u64, part: &[u8], file: &[u8], l: u8) -> [u8; 16]
-    requires { ⌜ l < 4 ⌝ }
-    ensures { λ r. ⌜ r ≡ tabulate 16 (λ b. byteOf x bits (now (part .entry)) (now (file .entry)) (16 * l + b)) ⌝ }
+fn origin_place(from: Origin, i: u8) -> u16
+    ensures { λ r. ⌜ r ≡ originPlace from i ⌝ }
 {
+    match from {
+        Origin::First(j) => j,
+        Origin::Third(j) => j,
+        Origin::Zero => 0,
+        Origin::Kept => i as u16,
+    }
+}
+
+// A lane below the width. The origin is looked for at an element's first byte alone.
+fn lane_bytes<'a>(
+    x: Instruction,
+    kind: Move,
+    bits: u64,
+    first: &'a [u8],
+    third: &'a [u8],
+    kept: &'a [u8],
+    l: u8,
+) -> [u8; 16]
+    requires { ⌜ (l < 4) × (kind ≡ moveOf (x .mnemonic) (x .immediate)) × (16 * l < widthBytes (x .width)) ⌝ }
+    ensures { λ r. ⌜ r ≡ tabulate 16 (λ b. partsByte x bits (now (first .entry)) (now (third .entry)) (now (kept .entry)) (16 * l + b)) ⌝ }
+{
+    let element = x.element;
+    let n = element.bytes();
     let mut bytes = [0u8; 16];
-    let mut from = Origin::Zero;
+    let mut part = third;
+    let mut place: u16 = 0;
     for b in 0..16 {
         let i = 16 * l + b as u8;
-        from = element_origin(x, bits, part, file, from, i);
-        bytes[b] = byte(x, part, file, from, i);
+        let k = i % n;
+        if k == 0 {
+            let from = origin_at(x, kind, bits, first, third, i);
+            part = origin_part(from, first, third, kept);
+            place = origin_place(from, i);
+        }
+        bytes[b] = repeated_byte(part, place as u32 + k as u32);
     }
     bytes
 }
 
 // Lane l of the destination, which is zero from the width on.
-fn lane(x: Instruction, bits: u64, part: &[u8], file: &[u8], l: u8) -> [u8; 16]
-    requires { ⌜ l < 4 ⌝ }
-    ensures { λ r. ⌜ r ≡ tabulate 16 (λ b. byteOf x bits (now (part .entry)) (now (file .entry)) (16 * l + b)) ⌝ }
+fn lane<'a>(
+    x: Instruction,
+    kind: Move,
+    bits: u64,
+    first: &'a [u8],
+    third: &'a [u8],
+    kept: &'a [u8],
+    l: u8,
+) -> [u8; 16]
+    requires { ⌜ (l < 4) × (kind ≡ moveOf (x .mnemonic) (x .immediate)) ⌝ }
+    ensures { λ r. ⌜ r ≡ tabulate 16 (λ b. partsByte x bits (now (first .entry)) (now (third .entry)) (now (kept .entry)) (16 * l + b)) ⌝ }
 {
     let width = x.width;
     if width.bytes() <= 16 * l {
         return [0u8; 16];
     }
-    lane_bytes(x, bits, part, file, l)
+    lane_bytes(x, kind, bits, first, third, kept, l)
 }
 
 // The destination's 64 bytes, in four lanes.
@@ -158,14 +186,20 @@ fn lanes<'a>(x: Instruction, bits: u64, file: &'a [u8], memory: &'a [u8]) -> [[u
     requires { ⌜ length (now file) ≡ fileSize ⌝ }
     ensures { λ r. ⌜ r ≡ lanesOf (byteOf x bits (thirdPart (x .third) (now (memory .entry)) (now (file .entry))) (now (file .entry))) ⌝ }
 {
-    let third = x.third;
-    let part = third_part(third, file, memory);
-    [
-        lane(x, bits, part, file, 0),
-        lane(x, bits, part, file, 1),
-        lane(x, bits, part, file, 2),
-        lane(x, bits, part, file, 3),
-    ]
+    let mnemonic = x.mnemonic;
+    let immediate = x.immediate;
+    let source = x.first;
+    let operand = x.third;
+    let destination = x.destination;
+    let kind = moves::move_of(mnemonic, immediate);
+    let first = register_part(moves::first_register(source), file);
+    let third = third_part(operand, file, memory);
+    let kept = register_part(destination, file);
+    let mut new = [[0u8; 16]; 4];
+    for l in 0..4u8 {
+        new[l as usize] = lane(x, kind, bits, first, third, kept, l);
+    }
+    new
 }
 
 // Puts four lanes into a register.

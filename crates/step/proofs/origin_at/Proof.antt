@@ -1,5 +1,5 @@
 use borrow.Author.Needs.{needs}
-use Rattle.step.proofs.Rules.{origin-found}
+use Rattle.moves.proofs.Rules.{through, cleared, kept}
 use Rattle.step.proofs.origin_at.Statement.{statement}
 use Rattle.step.proofs.origin_at.Tie as tie
 
@@ -8,5 +8,9 @@ origin-at-spec =
     tie.close
     (tie.spec
     (λ c κs. search needs)
+    (λ c. search needs)
     (λ c κs. search needs)
-    (λ c. search (needs, origin-found) depth 12))
+    (λ c κs. search needs)
+    (λ c. search (needs, through) depth 12)
+    (λ c. search (needs, cleared) depth 12)
+    (λ c. search (needs, kept) depth 12))
