@@ -79,6 +79,9 @@ module _ (kind : Move) (n v c i : ℕ) where
   unfolding pickOf
   picks-lane q m p o h = h ∙ rw (q, p)
 
+pub picked-by : (kind move : Move) (n v c d i : ℕ) (r : Origin) → kind ≡ move → c ≡ d → r ≡ pickOf kind n v c i → r ≡ pickOf move n v d i
+picked-by kind move n v c d i r p q e = e ∙ rw (p, q)
+
 module _ (masks : List ℕ) (k : Mask) (m : ℕ) (pm : m ≡ k .0) where
   pub all-bits : m ≡ 0 → 2 ^ 64 - 1 ≡ bitsOf masks k
   unfolding bitsOf

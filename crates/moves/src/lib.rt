@@ -202,6 +202,18 @@ pub fn is_written(bits: u64, j: u8) -> bool
     if j < 64 { (bits >> j) % 2 == 1 } else { false }
 }
 
+// Byte i of a full result, by the instruction's own move. Within origin_of, the compiler would put the origin together in
+// memory, and wait for it there.
+fn picked(x: Instruction, c: u8, i: u8) -> Origin
+    ensures { λ r. ⌜ r ≡ pickOf (moveOf (x .mnemonic) (x .immediate)) (elementBytes (x .element)) (widthBytes (x .width)) c i ⌝ }
+{
+    let mnemonic = x.mnemonic;
+    let immediate = x.immediate;
+    let element = x.element;
+    let width = x.width;
+    pick(move_of(mnemonic, immediate), element, width, c, i)
+}
+
 // Byte i of the destination, for a control c and the elements that are written.
 pub fn origin_of(x: Instruction, bits: u64, c: u8, i: u8) -> Origin
     ensures { λ r. ⌜ r ≡ originOf x bits c i ⌝ }
@@ -214,9 +226,7 @@ pub fn origin_of(x: Instruction, bits: u64, c: u8, i: u8) -> Origin
         return Origin::Zero;
     }
     if is_written(bits, i / n) {
-        let mnemonic = x.mnemonic;
-        let immediate = x.immediate;
-        return pick(move_of(mnemonic, immediate), element, width, c, i);
+        return picked(x, c, i);
     }
     if x.zeroing {
         return Origin::Zero;

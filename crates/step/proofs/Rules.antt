@@ -17,12 +17,10 @@ use Rattle.decode.specs.Decode.{decodeOf}
 use Rattle.decode.specs.declared.instruction.Third.{Third}
 use Rattle.decode.specs.declared.instruction.Instruction.{Instruction}
 use Rattle.decode.specs.declared.instruction.Decoded.{Decoded}
-use Rattle.moves.specs.Pick.{pickOf}
 use Rattle.moves.specs.Origin.{bitsOf}
 use Rattle.moves.specs.Moved.{registerAt, thirdPart, repeated, controlBy, placed, moved}
 use Rattle.moves.proofs.Placed.{placed-ext}
 use Rattle.moves.specs.declared.Move.{Move}
-use Rattle.moves.specs.declared.Origin.{Origin}
 use Rattle.step.specs.Step.{executedOf, executedFile, stepOf, fileAfter}
 use Rattle.step.specs.Inner.{registerPart, byteOf, lanesOf, laneByte, refusedOf}
 use Rattle.step.specs.declared.Stepped.{Stepped}
@@ -72,9 +70,6 @@ module _ (kind : Move) (immediate first third r : ℕ) where
 
   pub control-lane : kind ≡ Move.LaneOrZero → r ≡ immediate → r ≡ controlBy kind immediate first third
   control-lane q e = e ∙ rw q
-
-pub picked-by : (kind : Move) (n v c d i : ℕ) (r : Origin) → c ≡ d → r ≡ pickOf kind n v c i → r ≡ pickOf kind n v d i
-picked-by kind n v c d i r p e = e ∙ rw p
 
 pub refused-no : (d : Decoded) (why : Refusal) → d ≡ Decoded.Refused why → Stepped.Refused why ≡ refusedOf d
 refused-no d why p = rw p

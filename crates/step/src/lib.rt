@@ -80,7 +80,8 @@ fn control(kind: Move, immediate: Immediate, first: &[u8], third: &[u8], i: u8) 
     }
 }
 
-// Where the element that starts at byte i comes from in a full result.
+// Where the element that starts at byte i comes from in a full result. A function of its own as moves::picked is, for
+// speed.
 fn picked(x: Instruction, kind: Move, first: &[u8], third: &[u8], i: u8) -> Origin
     ensures { λ r. ⌜ r ≡ pickAt kind x (now (first .entry)) (now (third .entry)) i ⌝ }
 {

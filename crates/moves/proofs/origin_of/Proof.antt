@@ -13,7 +13,6 @@ origin-of-spec =
     (λ c. search needs)
     (λ c κs. search needs)
     (λ c κs. search needs)
-    (λ c κs. search needs)
     (λ c. search (needs, above, through, cleared, kept) depth 12)
     (λ c. search (needs, above, through, cleared, kept) depth 12)
     (λ c. search (needs, above, through, cleared, kept) depth 12))
