@@ -47,7 +47,7 @@ rightSizes masks m features = both (eqb masks maskCount) (both (eqb m mapEntries
 abbrev pub refusedBuild : Refusal → Built
 refusedBuild why = record { place = 0; answer = Answer.Refused why }
 
--- sizes and features, then the list's length, then the steps
+-- sizes and features, then the list's length, then the steps. `masks` and `m` are lengths
 unfoldable pub buildOf : List ℕ → ℕ → ℕ → ℕ → Built
 buildOf code masks features m =
     if rightSizes masks m features then (if leb (length code) codeLimit then scannedOf code features else refusedBuild TooLong)

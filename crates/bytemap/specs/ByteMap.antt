@@ -31,7 +31,7 @@ applied m file = map (readByte file) m
 unfoldable pub composed : List ℕ → List ℕ → List ℕ
 composed first second = map (readEntry first) second
 
--- applying: the sizes are answer 1, an entry over 2,048 is 9
+-- applying: the sizes are answer 1, an entry over 2,048 is 9. `file` is a length, as `out` is below
 unfoldable pub applyOf : List ℕ → ℕ → Answer
 applyOf m file =
     if both (eqb (length m) mapEntries) (eqb file fileSize) then

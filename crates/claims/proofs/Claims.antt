@@ -10,15 +10,14 @@ use native.Mathlib.Omega.{arith}
 use lib.ListN.{length}
 use Rattle.isa.specs.Kinds.{fileSize, mapEntries, codeLimit}
 use Rattle.run.specs.declared.Answer.{Answer}
-use Rattle.run.specs.Run.{runOf, fileAfterRun}
-use Rattle.run.proofs.Laws.{wholeBudget}
+use Rattle.run.specs.Run.{wholeBudget, runOf, fileAfterRun}
 use Rattle.bytemap.specs.ByteMap.{readByte, readEntry, applied, composed, applyOf, fileApplied, composeOf, mapComposed}
 use Rattle.bytemap.specs.Build.{mapOf, buildOf, mapBuilt}
 use Rattle.bytemap.specs.Accepted.{Accepted}
 use Rattle.bytemap.proofs.Laws.{low-fine, lone, length-lone, lone-bytes, not-apart, apply-identity, compose-left, compose-right}
 use Rattle.bytemap.proofs.Acceptance.{facts, accepts, writes}
 use Rattle.claims.proofs.Words.{File, Map, Admitted}
-use Rattle.claims.proofs.Whole.{fine-low, applies, composes, composed-passes, associates, applies-in-turn, named, length-map-of, low-map-of, map-runs, run-file, run-answer, join-answer, join-map, empty-done, empty-map}
+use Rattle.claims.proofs.Whole.{fine-low, applies, composes, composed-passes, associates, applies-in-turn, named, length-map-of, low-map-of, map-runs, run-file, run-answer, join-answer, join-map, empty-done, empty-map, built-place}
 
 -- Built maps pass answers 1 and 9.
 pub a-built-map-passes : (code masks : List ℕ) (features : ℕ) → Map (mapOf code masks features)
@@ -85,22 +84,22 @@ the-empty-lists-map-second masks m out features p e =
     composes m (mapOf [] masks features) out p (a-built-map-passes [] masks features) e .1
     ∙ ap (composed m) (empty-map masks features) ∙ compose-right m (p .0)
 
--- 5. No starting file tells two lists apart.
-abbrev pub NotToldApart : List ℕ → List ℕ → List ℕ → ℕ → Type 0
-NotToldApart a b masks features = (file : List ℕ) → File file → fileAfterRun a masks features wholeBudget file ≡ fileAfterRun b masks features wholeBudget file
+-- 5. Two lists leave the same bytes, whatever file they start from.
+abbrev pub RunAlike : List ℕ → List ℕ → List ℕ → ℕ → Type 0
+RunAlike a b masks features = (file : List ℕ) → File file → fileAfterRun a masks features wholeBudget file ≡ fileAfterRun b masks features wholeBudget file
 
--- 5. Two accepted lists with equal maps are not told apart...
-pub equal-maps-are-not-told-apart : (a b masks : List ℕ) (features : ℕ) → Accepted a masks features → Accepted b masks features
-    → mapOf a masks features ≡ mapOf b masks features → NotToldApart a b masks features
-equal-maps-are-not-told-apart a b masks features p q same file f =
+-- 5. Two accepted lists with equal maps run alike...
+pub equal-maps-run-alike : (a b masks : List ℕ) (features : ℕ) → Accepted a masks features → Accepted b masks features
+    → mapOf a masks features ≡ mapOf b masks features → RunAlike a b masks features
+equal-maps-run-alike a b masks features p q same file f =
     sym (applying-is-running a masks file features wholeBudget p (f .0) (omega arith))
     ∙ ap (λ (m : List ℕ). fileApplied m file) same
     ∙ applying-is-running b masks file features wholeBudget q (f .0) (omega arith)
 
--- 5. ...and two that are not told apart have equal maps.
-pub not-told-apart-has-equal-maps : (a b masks : List ℕ) (features : ℕ) → Accepted a masks features → Accepted b masks features
-    → NotToldApart a b masks features → mapOf a masks features ≡ mapOf b masks features
-not-told-apart-has-equal-maps a b masks features p q same =
+-- 5. ...and two that run alike have equal maps.
+pub lists-that-run-alike-have-equal-maps : (a b masks : List ℕ) (features : ℕ) → Accepted a masks features → Accepted b masks features
+    → RunAlike a b masks features → mapOf a masks features ≡ mapOf b masks features
+lists-that-run-alike-have-equal-maps a b masks features p q same =
     not-apart (mapOf a masks features) (mapOf b masks features) (length-map-of masks features a ∙ sym (length-map-of masks features b)) (low-map-of masks features a) (low-map-of masks features b) (λ e.
     let l = length-lone e in
     map-runs masks features a (lone e) l
@@ -128,10 +127,14 @@ pub nothing-is-refused-when-accepted : (code masks m : List ℕ) (features : ℕ
 unfolding Accepted
 nothing-is-refused-when-accepted code masks m features e a = rw e a
 
--- 8. What building then writes is the list's map.
+-- 8. The place that building then gives is the list's length.
+pub an-accepted-lists-place-is-its-length : (code masks m : List ℕ) (features : ℕ) → length m ≡ mapEntries → Accepted code masks features → buildOf code (length masks) features (length m) .place ≡ length code
+an-accepted-lists-place-is-its-length code masks m features e a = built-place masks features code m (facts code masks features a) e
+
+-- 8. What it writes is the list's map.
 pub building-writes-the-map : (code masks m : List ℕ) (features : ℕ) → length m ≡ mapEntries → Accepted code masks features → mapBuilt code masks features m ≡ mapOf code masks features
 building-writes-the-map code masks m features e a = writes code masks features (facts code masks features a) m e
 
--- 8. With masks or features that answer 1 refuses, no list is accepted, not even the empty one.
+-- 8. Masks and features that answer 1 refuses leave no list accepted. The empty one is a list too.
 pub nothing-is-accepted-with-refused-masks-or-features : (code masks : List ℕ) (features : ℕ) → (Admitted masks features → ⊥) → Accepted code masks features → ⊥
 nothing-is-accepted-with-refused-masks-or-features code masks features n a = let f = facts code masks features a in n (f .masks-size, f .known)

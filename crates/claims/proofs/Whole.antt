@@ -1,39 +1,36 @@
 -- From the layers' laws to whole lists: what an accepted list's map is, and what a run of it is.
 use Prim.Native.Nat.{ℕ, zero, suc, _<_, _≤_}
 use mathlib.Core.Path.{_≡_, refl, sym, _∙_, ap}
-use mathlib.Core.Bool.{Bool, true, false}
+use mathlib.Core.Bool.{true}
 use mathlib.Core.List.{List, [], _∷_, _++_, map}
 use native.Mathlib.Omega.{arith}
 use native.Mathlib.Nat.{le-refl}
 use lib.Dec.{leb}
 use lib.ListN.{length, getD, length-map, List·getD-map}
-use borrow.Author.Tests.{eq-eqb, leb-true}
+use borrow.Author.Tests.{eq-eqb, le-leb, leb-true}
 use Rattle.seq.specs.Choice.{both}
 use Rattle.seq.proofs.Tabulate.{by-lt}
-use Rattle.isa.specs.Kinds.{fileSize, mapEntries, zeroEntry, codeLimit}
+use Rattle.isa.specs.Kinds.{fileSize, maskCount, mapEntries, zeroEntry, codeLimit}
 use Rattle.isa.specs.declared.refusal.Refusal.the-variants.{Unmappable, MemoryLength}
 use Rattle.run.specs.declared.Answer.{Answer}
 use Rattle.run.specs.Split.{Split}
-use Rattle.run.specs.Run.{withoutMemory, runSplit, filesOf, steppedRun, steppedFile, runOf, fileAfterRun}
+use Rattle.run.specs.Run.{wholeBudget, withoutMemory, runSplit, filesOf, steppedRun, steppedFile, runOf, fileAfterRun}
 use Rattle.run.proofs.Splits.{zero-cut}
-use Rattle.run.proofs.Laws.{wholeBudget, Passed, run-is, file-is}
+use Rattle.run.proofs.Order.{both-true}
+use Rattle.run.proofs.Laws.{Passed, run-is, file-is}
 use Rattle.moves.specs.Mappable.{mappable}
 use Rattle.bytemap.specs.ByteMap.{fine, readByte, readEntry, applied, composed, applyOf, fileApplied, composeOf, mapComposed}
-use Rattle.bytemap.specs.Build.{buildSplit, identity, mapsOf, mapOf}
+use Rattle.bytemap.specs.Build.{buildSplit, scannedOf, buildOf, identity, mapsOf, mapOf}
 use Rattle.bytemap.proofs.Laws.{Low, AllMapped, length-identity, reads-all, maps-to-file, maps-to-map, maps-join, length-maps, maps-low, identity-low, low-fine, zero-byte, zero-entry, apply-composed, compose-assoc, apply-agree}
 use Rattle.bytemap.proofs.Acceptance.{Facts}
 use Rattle.bytemap.proofs.Lists.{any-fuel, runs-as-mapped, all-mapped, whole, join-split}
 use Rattle.claims.proofs.Words.{Map}
 
-both-parts : (a b : Bool) → both a b ≡ true → (a ≡ true) × (b ≡ true)
-both-parts true b e = (refl, e)
-both-parts false b e = let z : _≡_ {A = ℕ} 0 1 = cc in absurd (omega arith)
-
 pub fine-low : (m : List ℕ) → fine m ≡ true → Low m
 unfolding fine
 fine-low [] e p = le-refl zeroEntry
-fine-low (a ∷ m) e zero = leb-true a zeroEntry (both-parts (leb a zeroEntry) (fine m) e .0)
-fine-low (a ∷ m) e (suc p) = fine-low m (both-parts (leb a zeroEntry) (fine m) e .1) p
+fine-low (a ∷ m) e zero = leb-true a zeroEntry (both-true (leb a zeroEntry) (fine m) e .0)
+fine-low (a ∷ m) e (suc p) = fine-low m (both-true (leb a zeroEntry) (fine m) e .1) p
 
 -- ---- applying and composing what passes
 
@@ -131,6 +128,11 @@ module _ (masks : List ℕ) (features : ℕ) where
   run-answer code file budget f e h =
       rw (run-is code masks features file (passes code file f e) budget, whole-split code budget h (f .short) (f .done))
       (f .done, whole features code (f .done))
+
+  pub built-place : (code m : List ℕ) → Facts code masks features → length m ≡ mapEntries → buildOf code (length masks) features (length m) .place ≡ length code
+  unfolding buildOf scannedOf
+  built-place code m f e =
+      rw (eq-eqb (length masks) maskCount (f .masks-size), eq-eqb (length m) mapEntries e, f .known, le-leb (length code) codeLimit (f .short)) (whole features code (f .done))
 
   -- ---- two lists, one after the other
 

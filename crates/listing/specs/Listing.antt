@@ -71,7 +71,7 @@ listingText code = let s = listedSplit code in headings ++ (stepLines 0 (s .inst
 abbrev pub refusedListing : Refusal → Listed
 refusedListing why = record { written = 0; answer = Answer.Refused why }
 
--- the size of the text, then the list's length. A list with a refused step is listed like others
+-- the size of the text, then the list's length. A list with a refused step is listed like others. `text` is a length
 unfoldable pub listingOf : List ℕ → ℕ → Listed
 listingOf code text =
     if leb textLeast text then

@@ -18,11 +18,11 @@ use Rattle.isa.specs.declared.operands.Element.{Element}
 use Rattle.isa.specs.declared.operands.Element.the-variants.{Byte, Doubleword, Quadword, Lane}
 use Rattle.decode.specs.declared.instruction.Instruction.{Instruction}
 use Rattle.moves.specs.Pick.{moveOf, picks, digit, placeIn, inLane, unpackLow, laneOf, pickOf}
-use Rattle.moves.specs.Origin.{bitsOf, written, originOf}
+use Rattle.moves.specs.Origin.{bitsOf, written, originOf, maskedOff}
 use Rattle.moves.specs.declared.Move.{Move}
 use Rattle.moves.specs.declared.Move.the-variants.{LaneByImmediate, LaneByThird, AnyByFirst, UnpackLow, LaneOrZero}
 use Rattle.moves.specs.declared.Origin.{Origin}
-use Rattle.moves.specs.declared.Origin.the-variants.{First, Third, Zero, Kept}
+use Rattle.moves.specs.declared.Origin.the-variants.{First, Third, Zero}
 use Rattle.moves.proofs.Digits.{pick-at, bit-at}
 
 module _ (e : Element) (c j : ℕ) where
@@ -32,17 +32,17 @@ module _ (e : Element) (c j : ℕ) where
       let z : j % 1 ≡ 0 = omega arith in
       rw (q, z) (omega arith)
 
-  pub digit-doubleword : e ≡ Doubleword → (four : List ℕ) → four ≡ picks c → getD four (j % 4) 0 ≡ digit (elementBytes e) c j
+  pub digit-doubleword : e ≡ Doubleword → (four : List ℕ) → four ≡ picks c → (k : ℕ) → k ≡ getD four (j % 4) 0 → k ≡ digit (elementBytes e) c j
   unfolding digit
-  digit-doubleword q four p = rw (q, p) (pick-at c (j % 4) (omega arith))
+  digit-doubleword q four p k h = h ∙ rw (q, p) (pick-at c (j % 4) (omega arith))
 
-  pub digit-quadword : e ≡ Quadword → (four : List ℕ) → four ≡ picks c → getD four (j / 2 % 4) 0 / 2 ^ (j % 2) % 2 ≡ digit (elementBytes e) c j
+  pub digit-quadword : e ≡ Quadword → (four : List ℕ) → four ≡ picks c → (k : ℕ) → k ≡ getD four (j / 2 % 4) 0 → k / 2 ^ (j % 2) % 2 ≡ digit (elementBytes e) c j
   unfolding digit
-  digit-quadword q four p =
+  digit-quadword q four p k h =
       let a : j / 2 % 4 ≡ j % 8 / 2 = omega arith in
       let b : j % 2 ≡ j % 8 % 2 = omega arith in
       let d : 1 * (j % 8) ≡ j % 8 = omega arith in
-      rw (q, p, a, b, d) (bit-at c (j % 8) (omega arith))
+      rw (h, q, p, a, b, d) (bit-at c (j % 8) (omega arith))
 
   pub digit-lane : e ≡ Lane → 0 ≡ digit (elementBytes e) c j
   unfolding digit
@@ -104,13 +104,9 @@ module _ (x : Instruction) (bits c i v n : ℕ) (pv : v ≡ widthBytes (x .width
   unfolding originOf
   through h t p q k g o e = e ∙ rw (g, ← pv, lt-leb v i h, ← pn, sym p ∙ q)
 
-  pub cleared : i < v → (t : Bool) → t ≡ written bits (i / n) → t ≡ false → x .zeroing ≡ true → Zero ≡ originOf x bits c i
+  pub not-through : i < v → (t : Bool) → t ≡ written bits (i / n) → t ≡ false → (o : Origin) → o ≡ maskedOff (x .zeroing) → o ≡ originOf x bits c i
   unfolding originOf
-  cleared h t p q z = rw (← pv, lt-leb v i h, ← pn, sym p ∙ q, z)
-
-  pub kept : i < v → (t : Bool) → t ≡ written bits (i / n) → t ≡ false → x .zeroing ≡ false → Kept ≡ originOf x bits c i
-  unfolding originOf
-  kept h t p q z = rw (← pv, lt-leb v i h, ← pn, sym p ∙ q, z)
+  not-through h t p q o e = e ∙ rw (← pv, lt-leb v i h, ← pn, sym p ∙ q)
 
 pub first-absent : (f : FirstSource.First) (r : Reg) → f ≡ FirstSource.First.Absent → r ≡ regOf 0 0 → r ≡ firstRegister f
 first-absent f r p q = q ∙ rw p

@@ -20,14 +20,17 @@ bitsOf masks k = if eqb (k .0) 0 then 2 ^ 64 - 1 else getD masks (k .0) 0
 unfoldable pub written : ℕ → ℕ → Bool
 written bits j = eqb (bits / 2 ^ j % 2) 1
 
--- zero from the width on; an element that is let through is picked; another is cleared with z, else kept
+-- an element that is not let through is cleared with z, else kept
+abbrev pub maskedOff : Bool → Origin
+maskedOff zeroing = if zeroing then Zero else Kept
+
+-- zero from the width on; an element that is let through is picked
 unfoldable pub originOf : Instruction → ℕ → ℕ → ℕ → Origin
 originOf x bits c i =
     if leb (widthBytes (x .width)) i then Zero
     else if written bits (i / elementBytes (x .element)) then
     pickOf (moveOf (x .mnemonic) (x .immediate)) (elementBytes (x .element)) (widthBytes (x .width)) c i
-    else if x .zeroing then Zero
-    else Kept
+    else maskedOff (x .zeroing)
 
 -- an origin moved on by k bytes, within an element
 abbrev pub shifted : ℕ → Origin → Origin

@@ -1,11 +1,12 @@
 // For each byte of the destination, where it comes from.
 ghost use mathlib.Core.Path.{_≡_};
 ghost use Prim.Native.Nat.{_*_, _/_, _%_, _<_, _≤_};
+ghost use lib.ListN.{getD};
 ghost use Rattle.moves.specs.declared.Move.{Move};
 ghost use Rattle.isa.specs.Operands.{widthBytes, elementBytes};
 ghost use Rattle.moves.specs.Pick.{moveOf, immediateByte, picks, digit, placeIn, inLane, unpackLow, laneBy, laneOf, pickOf};
 ghost use Rattle.moves.specs.Moved.{firstRegister};
-ghost use Rattle.moves.specs.Origin.{bitsOf, written, originOf};
+ghost use Rattle.moves.specs.Origin.{bitsOf, written, originOf, maskedOff};
 use decode::instruction::First;
 use decode::instruction::Immediate;
 use decode::instruction::Instruction;
@@ -69,16 +70,20 @@ pub fn picks_of(c: u8) -> [u8; 4]
     [c % 4, c / 4 % 4, c / 16 % 4, c / 64 % 4]
 }
 
+fn pick_at(four: [u8; 4], j: u8) -> u8
+    ensures { λ r. ⌜ r ≡ getD four (j % 4) 0 ⌝ }
+{
+    four[(j % 4) as usize]
+}
+
 // The immediate's digit for element j.
 fn digit_of(element: Element, c: u8, j: u8) -> u8
     ensures { λ r. ⌜ r ≡ digit (elementBytes element) c j ⌝ }
 {
-    let four = picks_of(c);
-    let quarter = (j / 2 % 4) as usize;
     match element {
         Element::Byte => c,
-        Element::Doubleword => four[(j % 4) as usize],
-        Element::Quadword => (four[quarter] >> (j % 2)) % 2,
+        Element::Doubleword => pick_at(picks_of(c), j),
+        Element::Quadword => (pick_at(picks_of(c), j / 2) >> (j % 2)) % 2,
         Element::Lane => 0,
     }
 }
@@ -202,6 +207,13 @@ pub fn is_written(bits: u64, j: u8) -> bool
     if j < 64 { (bits >> j) % 2 == 1 } else { false }
 }
 
+// Where an element that is not let through comes from.
+pub fn masked_off(zeroing: bool) -> Origin
+    ensures { λ r. ⌜ r ≡ maskedOff zeroing ⌝ }
+{
+    if zeroing { Origin::Zero } else { Origin::Kept }
+}
+
 // Byte i of a full result, by the instruction's own move. Within origin_of, the compiler would put the origin together in
 // memory, and wait for it there.
 fn picked(x: Instruction, c: u8, i: u8) -> Origin
@@ -228,10 +240,7 @@ pub fn origin_of(x: Instruction, bits: u64, c: u8, i: u8) -> Origin
     if is_written(bits, i / n) {
         return picked(x, c, i);
     }
-    if x.zeroing {
-        return Origin::Zero;
-    }
-    Origin::Kept
+    masked_off(x.zeroing)
 }
 
 // The first source; a form that has none moves nothing from it.

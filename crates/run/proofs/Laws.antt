@@ -1,5 +1,5 @@
--- The laws of runs: how many steps there are, which budget is enough, what more budget changes, and a run in two parts.
-use Prim.Native.Nat.{ℕ, _+_, _*_, _≤_}
+-- The laws of runs: how many steps there are, which budget is enough, what more budget changes, a run in two parts, and a run of one step.
+use Prim.Native.Nat.{ℕ, _+_, _*_, _<_, _≤_}
 use mathlib.Core.Path.{_≡_, refl, sym, _∙_, ap}
 use mathlib.Core.Bool.{Bool, true, false}
 use mathlib.Core.List.{List, [], _∷_, _++_, append-nil}
@@ -7,25 +7,24 @@ use native.Mathlib.Omega.{arith}
 use native.Mathlib.Nat.{add-zero}
 use lib.Dec.{eqb, leb}
 use lib.ListN.{length, drop, length-drop, length-append}
-use borrow.Author.Tests.{eqb-true, leb-true, eq-eqb, le-leb}
+use borrow.Author.Tests.{eqb-true, leb-true, eq-eqb, ne-eqb, le-leb}
 use Rattle.seq.specs.Choice.{both}
 use Rattle.seq.proofs.Choice.{of-either}
 use Rattle.isa.specs.Kinds.{fileSize, maskCount, codeLimit}
 use Rattle.isa.specs.Features.{featuresKnown}
 use Rattle.isa.specs.declared.refusal.Refusal.{Refusal}
 use Rattle.isa.specs.declared.refusal.Refusal.the-variants.{Argument, MemoryLength, TooLong}
+use Rattle.decode.specs.Decode.{decodeOf}
 use Rattle.decode.specs.declared.instruction.Instruction.{Instruction}
+use Rattle.decode.specs.declared.instruction.Decoded.{Decoded}
 use Rattle.moves.proofs.Laws.{length-moved}
-use Rattle.step.specs.Step.{movedFile}
-use Rattle.run.specs.Split.{Split, stopped}
-use Rattle.run.specs.Run.{withoutMemory, runSplit, filesOf, steppedRun, steppedFile, refusedRun, runOf, fileAfterRun}
+use Rattle.step.specs.Step.{movedFile, executedOf, executedFile, sizesRight, stepOf, fileAfter}
+use Rattle.step.specs.declared.Stepped.{Stepped}
+use Rattle.run.specs.Split.{Split, stopped, split}
+use Rattle.run.specs.Run.{wholeBudget, withoutMemory, runSplit, filesOf, steppedRun, steppedFile, refusedRun, runOf, fileAfterRun}
 use Rattle.run.proofs.Splits.{joined, counted, settled, in-two, refusal-stays, empty-cut}
 use Rattle.run.specs.declared.Answer.{Answer}
 use Rattle.run.specs.declared.Ran.{Ran}
-
--- a budget that reaches the end, or a refusal, of every list that answer 8 lets pass
-abbrev pub wholeBudget : ℕ
-wholeBudget = 1024
 
 no-done : (why : Refusal) → Answer.Refused why ≡ Answer.Done → ⊥
 no-done why e = let z : _≡_ {A = ℕ} 0 1 = cc in omega arith
@@ -130,7 +129,7 @@ module _ (code masks : List ℕ) (features n m : ℕ) (file : List ℕ) where
   rest = drop (part .place) code
 
   pub record InTwo : Type 0 where
-    pub numbers : ranOf code masks features (n + m) file ≡ added part (ranOf rest masks features m file)
+    pub numbers : ranOf code masks features (n + m) file ≡ added part (ranOf rest masks features m (fileAfterRun code masks features n file))
     pub bytes : fileAfterRun code masks features (n + m) file ≡ fileAfterRun rest masks features m (fileAfterRun code masks features n file)
 
   -- what is left of a list that passes does too, on the file that the run left
@@ -153,7 +152,7 @@ module _ (code masks : List ℕ) (features n m : ℕ) (file : List ℕ) where
           let left = steppedFile code masks features n file in
           let done : steppedRun code features n .answer ≡ Answer.Done = rw (is n) at g in
           record {
-            numbers = rw (is (n + m), is n, run-is (drop k code) masks features file (rest-passes p k) m) (stepped-in-two code features n m done);
+            numbers = rw (is (n + m), is n, file-is code masks features file p n, run-is (drop k code) masks features left (left-passes p k) m) (stepped-in-two code features n m done);
             bytes = rw (is n, file-is code masks features file p (n + m), file-is code masks features file p n, file-is (drop k code) masks features left (left-passes p k) m) (files-in-two code masks features n m file done);
           }
       by (stops why f h) g = absurd (no-done why (rw (f n) at g))
@@ -196,3 +195,45 @@ module _ (code masks : List ℕ) (features n m : ℕ) (file : List ℕ) where
       by : Case code masks features file → part .answer ≡ Answer.Done → part .place ≡ length code → Same
       by (goes p) g h = let r = run-is code masks features file p n in same-split p (split-ended (rw r at g) (rw r at h))
       by (stops r f j) g h = absurd (no-done r (rw (f n) at g))
+
+-- ---- a run of one step is a step: with a run in two parts, a run of k steps is k steps, each on the file that the one before it left
+
+-- a step's answer as a run's
+abbrev pub ofStep : Stepped → Ran
+ofStep (Stepped.Done n) = record { steps = 1; place = n; answer = Answer.Done }
+ofStep (Stepped.Refused why) = record { steps = 0; place = 0; answer = Answer.Refused why }
+
+pub record OneStep (code masks : List ℕ) (features : ℕ) (file : List ℕ) : Type 0 where
+  pub numbers : ranOf code masks features 1 file ≡ ofStep (stepOf code (length file) (length masks) features 0)
+  pub bytes : fileAfterRun code masks features 1 file ≡ fileAfter code masks features [] file
+
+module _ (code masks : List ℕ) (features : ℕ) (file : List ℕ) (some : 0 < length code) (short : length code ≤ codeLimit) where
+  not-empty : eqb (length code) 0 ≡ false
+  not-empty = ne-eqb (length code) 0 (λ e. omega (arith, some))
+
+  -- by the sizes, the features, what is decoded, and whether it wants memory
+  on-wanted : (x : Instruction) → sizesRight (length file) (length masks) ≡ true → featuresKnown features ≡ true → decodeOf code features ≡ Decoded.Accepted x → (w : Bool) → withoutMemory x ≡ w
+      → OneStep code masks features file
+  unfolding runOf fileAfterRun steppedRun steppedFile runSplit split filesOf stepOf fileAfter executedOf executedFile
+  on-wanted x t k d true w =
+      let l = le-leb (length code) codeLimit short in
+      record { numbers = rw (t, k, l, not-empty, d, w, add-zero (x .length)); bytes = rw (t, k, l, not-empty, d, w) }
+  on-wanted x t k d false w =
+      let l = le-leb (length code) codeLimit short in
+      record { numbers = rw (t, k, l, not-empty, d, w); bytes = rw (t, k, l, not-empty, d, w) }
+
+  on-decoded : sizesRight (length file) (length masks) ≡ true → featuresKnown features ≡ true → (d : Decoded) → decodeOf code features ≡ d → OneStep code masks features file
+  unfolding runOf fileAfterRun steppedRun steppedFile runSplit split filesOf stepOf fileAfter
+  on-decoded t k (Decoded.Refused why) d =
+      let l = le-leb (length code) codeLimit short in
+      record { numbers = rw (t, k, l, not-empty, d); bytes = rw (t, k, l, not-empty, d) }
+  on-decoded t k (Decoded.Accepted x) d = on-wanted x t k d (withoutMemory x) refl
+
+  pub a-run-of-one-is-a-step : OneStep code masks features file
+  unfolding runOf fileAfterRun stepOf fileAfter decodeOf
+  a-run-of-one-is-a-step = by (sizesRight (length file) (length masks)) refl (featuresKnown features) refl
+    where
+      by : (t : Bool) → sizesRight (length file) (length masks) ≡ t → (k : Bool) → featuresKnown features ≡ k → OneStep code masks features file
+      by true t true k = on-decoded t k (decodeOf code features) refl
+      by true t false k = record { numbers = rw (t, k); bytes = rw (t, k) }
+      by false t k q = record { numbers = rw t; bytes = rw t }

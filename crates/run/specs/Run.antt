@@ -17,6 +17,10 @@ use Rattle.run.specs.Split.{Split, split}
 use Rattle.run.specs.declared.Answer.{Answer}
 use Rattle.run.specs.declared.Ran.{Ran}
 
+-- a budget that reaches the end, or a refusal, of every list that answer 8 lets pass
+abbrev pub wholeBudget : ℕ
+wholeBudget = 1024
+
 -- no memory comes with a list, so that a memory form is refused as one of the wrong length
 abbrev pub withoutMemory : Instruction → Bool
 withoutMemory x = eqb 0 (wantedOf (x .third))
@@ -40,7 +44,7 @@ steppedFile code masks features budget file = filesOf (runSplit code features bu
 abbrev pub refusedRun : Refusal → Ran
 refusedRun why = record { steps = 0; place = 0; answer = Answer.Refused why }
 
--- sizes and features, then the list's length, then the steps
+-- sizes and features, then the list's length, then the steps. `file` and `masks` are lengths
 unfoldable pub runOf : List ℕ → ℕ → ℕ → ℕ → ℕ → Ran
 runOf code file masks features budget =
     if both (sizesRight file masks) (featuresKnown features) then

@@ -102,10 +102,7 @@ fn origin_at(x: Instruction, kind: Move, bits: u64, first: &[u8], third: &[u8], 
     if moves::is_written(bits, i / element.bytes()) {
         return picked(x, kind, first, third, i);
     }
-    if x.zeroing {
-        return Origin::Zero;
-    }
-    Origin::Kept
+    moves::masked_off(x.zeroing)
 }
 
 // An origin as a part, and as a place in it. Zero is a part with no bytes.

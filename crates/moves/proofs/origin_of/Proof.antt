@@ -1,5 +1,5 @@
 use borrow.Author.Needs.{needs}
-use Rattle.moves.proofs.Rules.{above, through, cleared, kept}
+use Rattle.moves.proofs.Rules.{above, through, not-through}
 use Rattle.moves.proofs.origin_of.Statement.{statement}
 use Rattle.moves.proofs.origin_of.Tie as tie
 
@@ -9,10 +9,10 @@ origin-of-spec =
     (tie.spec
     (λ c κs. search needs)
     (λ c κs. search needs)
-    (λ c. search (needs, above, through, cleared, kept) depth 12)
+    (λ c. search (needs, above) depth 12)
     (λ c. search needs)
     (λ c κs. search needs)
     (λ c κs. search needs)
-    (λ c. search (needs, above, through, cleared, kept) depth 12)
-    (λ c. search (needs, above, through, cleared, kept) depth 12)
-    (λ c. search (needs, above, through, cleared, kept) depth 12))
+    (λ c. search (needs, through) depth 12)
+    (λ c κs. search needs)
+    (λ c. search (needs, not-through) depth 12))
