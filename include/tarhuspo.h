@@ -140,8 +140,8 @@ typedef struct {
 
 /*
  * Carries out the instructions of code, one behind the other, at most budget of them. The one after
- * a spent budget is not looked at. A budget of 1024 always reaches the end or a refusal, because an
- * instruction has at least 4 bytes.
+ * a spent budget is not looked at. 1024 is enough for every list, since no instruction is shorter
+ * than 4 bytes.
  *
  * The register file is left as steps calls of tarhuspo_step leave it, also if a later instruction
  * is refused. For 1 and 8 nothing is changed. code and masks are never written to.

@@ -14,7 +14,7 @@ use Rattle.isa.specs.declared.operands.Element.{Element}
 use Rattle.isa.specs.declared.operands.Element.the-variants.{Byte, Doubleword, Quadword, Lane}
 use Rattle.decode.specs.declared.instruction.Instruction.{Instruction}
 use Rattle.moves.specs.Pick.{moveOf, digit, placeIn, inLane, unpackLow, laneBy, laneOf, pickOf}
-use Rattle.moves.specs.Origin.{written, originOf, shifted}
+use Rattle.moves.specs.Origin.{written, originOf}
 use Rattle.moves.specs.Moved.{elementStart}
 use Rattle.moves.specs.declared.Move.{Move}
 use Rattle.moves.specs.declared.Move.the-variants.{LaneByImmediate, LaneByThird, AnyByFirst, UnpackLow, LaneOrZero}
@@ -54,6 +54,13 @@ width-same w e i = by (leb (widthBytes w) i) refl
     by : (t : Bool) → leb (widthBytes w) i ≡ t → leb (widthBytes w) (i - i % elementBytes e) ≡ leb (widthBytes w) i
     by true p = le-leb (widthBytes w) (i - i % elementBytes e) (within w e i (leb-true (widthBytes w) i p)) ∙ sym p
     by false p = lt-leb (widthBytes w) (i - i % elementBytes e) (omega (arith, leb-false (widthBytes w) i p)) ∙ sym p
+
+-- an origin moved on by k bytes, within an element
+abbrev pub shifted : ℕ → Origin → Origin
+shifted k (First j) = First (j + k)
+shifted k (Third j) = Third (j + k)
+shifted k Zero = Zero
+shifted k Kept = Kept
 
 push : (k : ℕ) (t : Bool) (x y : Origin) → shifted k (if t then x else y) ≡ (if t then shifted k x else shifted k y)
 push k true x y = refl

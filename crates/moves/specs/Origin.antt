@@ -1,5 +1,5 @@
 -- Document 01, "What a step moves": masks and width. Where byte i of the destination comes from.
-use Prim.Native.Nat.{ℕ, _+_, _-_, _/_, _%_, _^_}
+use Prim.Native.Nat.{ℕ, _-_, _/_, _%_, _^_}
 use mathlib.Core.Bool.{Bool}
 use mathlib.Core.List.{List}
 use lib.Dec.{eqb, leb}
@@ -10,7 +10,7 @@ use Rattle.isa.specs.declared.kinds.Mask.{Mask}
 use Rattle.decode.specs.declared.instruction.Instruction.{Instruction}
 use Rattle.moves.specs.Pick.{moveOf, pickOf}
 use Rattle.moves.specs.declared.Origin.{Origin}
-use Rattle.moves.specs.declared.Origin.the-variants.{First, Third, Zero, Kept}
+use Rattle.moves.specs.declared.Origin.the-variants.{Zero, Kept}
 
 -- mask 0, which every VEX form has too, lets all elements through; any other goes by its bits
 unfoldable pub bitsOf : List ℕ → Mask → ℕ
@@ -31,10 +31,3 @@ originOf x bits c i =
     else if written bits (i / elementBytes (x .element)) then
     pickOf (moveOf (x .mnemonic) (x .immediate)) (elementBytes (x .element)) (widthBytes (x .width)) c i
     else maskedOff (x .zeroing)
-
--- an origin moved on by k bytes, within an element
-abbrev pub shifted : ℕ → Origin → Origin
-shifted k (First j) = First (j + k)
-shifted k (Third j) = Third (j + k)
-shifted k Zero = Zero
-shifted k Kept = Kept

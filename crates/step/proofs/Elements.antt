@@ -16,10 +16,10 @@ use Rattle.isa.specs.declared.operands.Element.{Element}
 use Rattle.isa.specs.declared.operands.Element.the-variants.{Byte, Doubleword, Quadword, Lane}
 use Rattle.decode.specs.declared.instruction.Instruction.{Instruction}
 use Rattle.moves.specs.Pick.{moveOf, immediateByte}
-use Rattle.moves.specs.Origin.{originOf, shifted}
+use Rattle.moves.specs.Origin.{originOf}
 use Rattle.moves.specs.Moved.{held, firstRegister, repeated, controlBy, elementStart, controlOf, entryOf}
 use Rattle.moves.proofs.Placed.{part-entry}
-use Rattle.moves.proofs.Shift.{origin-shift}
+use Rattle.moves.proofs.Shift.{shifted, origin-shift}
 use Rattle.moves.specs.declared.Move.{Move}
 use Rattle.moves.specs.declared.Origin.{Origin}
 use Rattle.moves.specs.declared.Origin.the-variants.{First, Third, Zero, Kept}

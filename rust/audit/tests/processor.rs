@@ -135,7 +135,7 @@ fn reading_past_the_operand_is_a_fault() {
     }
 }
 
-/// Document 01 wants memory in full even if every mask bit is 0, and so does the processor.
+/// The mask does not shorten the memory operand: the processor wants all of it too.
 #[test]
 fn masked_elements_are_read_too() {
     let Some(mut processor) = processor() else {

@@ -148,7 +148,7 @@ fn check_fault(
     }
 }
 
-/// A run of n that answers 0, then m over the rest, is a run of n + m.
+/// Stopping after n steps and going on for m more changes nothing.
 fn two_parts(comparison: &mut Comparison) {
     for_lists(3, 8_000, 16, |list, case, random| {
         let (fault, _) = random.pick(&RUN_FAULTS);
@@ -193,7 +193,7 @@ fn check_parts(comparison: &mut Comparison, case: &mut Case, n: u64, m: u64) {
     );
 }
 
-/// After k steps the file is what the first k steps leave, each done on its own.
+/// A run does what as many calls of the step do, one after the other.
 fn single_steps(comparison: &mut Comparison) {
     for_lists(4, 1_500, 12, |list, case, _| {
         let mut file = case.file.clone();
