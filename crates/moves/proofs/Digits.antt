@@ -1,9 +1,9 @@
 -- A digit of a control is one of its four picks, or a bit of one.
-use Prim.Native.Nat.{ℕ, zero, suc, _+_, _*_, _/_, _%_, _^_, _<_}
-use mathlib.Core.Path.{_≡_, refl, _∙_, sym, ap}
+use Prim.Native.Nat.{ℕ, zero, suc, _*_, _/_, _%_, _^_, _<_}
+use mathlib.Core.Path.{_≡_, refl}
 use native.Mathlib.Omega.{arith}
 use lib.ListN.{getD}
-use Rattle.moves.specs.Pick.{picks, digit}
+use Rattle.moves.specs.Pick.{picks}
 
 -- bits 2k+1:2k are pick k
 pub pick-at : (c k : ℕ) → k < 4 → getD (picks c) k 0 ≡ c / 2 ^ (2 * k) % 4

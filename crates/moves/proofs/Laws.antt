@@ -1,14 +1,14 @@
 -- The laws of what a step moves: it changes its destination alone; it clears what is above the width; unmasked, the old destination does not matter;
 -- mask bits past the last element do not matter; and it moves entries whatever they stand for.
 use Prim.Native.Nat.{ℕ, _+_, _-_, _*_, _/_, _%_, _^_, _<_, _≤_}
-use mathlib.Core.Path.{_≡_, refl, sym, _∙_, ap, subst}
+use mathlib.Core.Path.{_≡_, refl, sym, _∙_, ap}
 use mathlib.Core.Bool.{Bool, true, false}
 use mathlib.Core.List.{List, map}
 use native.Mathlib.Omega.{arith}
 use native.Mathlib.Nat.{div-lt-iff-lt-mul, div-add-mod', div-le-self}
 use lib.Dec.{eqb, leb}
 use lib.ListN.{length, getD, take, drop, length-map, List·getD-map, List·getD-eq-default}
-use borrow.Author.Tests.{le-leb, lt-leb, eq-eqb, eqb-true, eqb-false, leb-true, leb-false}
+use borrow.Author.Tests.{le-leb, eq-eqb, eqb-false}
 use Rattle.seq.specs.Choice.{if_then_else_, both}
 use Rattle.seq.specs.Tabulate.{tabulate}
 use Rattle.seq.proofs.Choice.{of-either}
@@ -21,7 +21,7 @@ use Rattle.decode.proofs.Ranges.{divides}
 use Rattle.decode.specs.declared.instruction.First as FirstSource
 use Rattle.decode.specs.declared.instruction.Third as ThirdOperand
 use Rattle.decode.specs.declared.instruction.Instruction.{Instruction}
-use Rattle.moves.specs.Pick.{moveOf, immediateByte, unpackLow, laneBy, laneOf, pickOf}
+use Rattle.moves.specs.Pick.{moveOf, immediateByte, digit, unpackLow, laneBy, laneOf, pickOf}
 use Rattle.moves.specs.Origin.{bitsOf, written, originOf}
 use Rattle.moves.specs.Moved.{held, registerAt, firstRegister, thirdPart, repeated, controlBy, elementStart, controlOf, entryOf, placed, moved}
 use Rattle.moves.specs.Mappable.{byImmediate, inRegister, mappable}
@@ -248,3 +248,16 @@ module _ {A : Type 0} (byte : A → ℕ) (z : A) (x : Instruction) (masks : List
     pub unmasked : moved byte z x masks memory f ≡ moved byte z x masks memory g
     unfolding moved
     unmasked = tabulate-ext (length f) (placed z f d (new f)) (placed z g d (new g)) (λ p b. placed-same p) ∙ rw e
+
+-- ---- the element's size filled in: an immediate's bit j chooses quadword j, its bits 2j+1:2j doubleword j, and bit 1 of a control chooses a quadword
+
+pub quadword-digit : (c j : ℕ) → digit 8 c j ≡ c / 2 ^ (j % 8) % 2
+unfolding digit
+quadword-digit c j = let e : 1 * (j % 8) ≡ j % 8 = omega arith in rw e
+
+pub doubleword-digit : (c j : ℕ) → digit 4 c j ≡ c / 2 ^ (2 * (j % 4)) % 4
+unfolding digit
+doubleword-digit c j = refl
+
+pub quadword-control : (c : ℕ) → 4 * (c % 4) / 8 ≡ c / 2 % 2
+quadword-control c = omega arith

@@ -1,6 +1,6 @@
 -- A register in a file: its entries as a part of the file; and a file with 64 new entries in one register, which of its entries are new, which are the
 -- old ones, and when two such files are equal.
-use Prim.Native.Nat.{ℕ, _+_, _*_, _/_, _%_, _<_}
+use Prim.Native.Nat.{ℕ, _+_, _*_, _/_, _%_, _<_, _≤_}
 use mathlib.Core.Path.{_≡_, ap}
 use mathlib.Core.List.{List}
 use native.Mathlib.Omega.{arith}
@@ -10,7 +10,7 @@ use lib.Seq.{length-take-le, getD-take, getD-drop}
 use borrow.Author.Tests.{eq-eqb, ne-eqb}
 use Rattle.seq.specs.Choice.{if_then_else_}
 use Rattle.seq.specs.Tabulate.{tabulate}
-use Rattle.seq.proofs.Tabulate.{tabulate-ext}
+use Rattle.seq.proofs.Tabulate.{tabulate-ext, upto, upto-start, upto-end}
 use Rattle.isa.specs.Kinds.{fileSize, registerBytes, offsetOf}
 use Rattle.isa.specs.declared.kinds.Reg.{Reg}
 use Rattle.moves.specs.Moved.{registerAt, repeated, placed}
@@ -41,3 +41,11 @@ module _ {A : Type 0} (z : A) (file : List A) (r : ℕ) (new : ℕ → A) where
   placed-ext n f h =
       tabulate-ext n (placed z file r new) (placed z file r f)
       (λ p b. ap (λ (x : A). if eqb (p / 64) r then x else getD file p z) (h (p % 64) (omega arith)))
+
+  -- ---- a loop that stores the new entries of register r: before its first store, and after its last
+
+  pub placing-starts : (k : ℕ) → k ≤ 64 * r → file ≡ upto file z (placed z file r new) k
+  placing-starts k h = upto-start file z (placed z file r new) k (λ p b. placed-out p (λ q. omega arith))
+
+  pub placing-ends : (k : ℕ) → 64 * r + 64 ≤ k → upto file z (placed z file r new) k ≡ tabulate (length file) (placed z file r new)
+  placing-ends k h = upto-end file z (placed z file r new) k (λ p b c. placed-out p (λ q. omega arith))

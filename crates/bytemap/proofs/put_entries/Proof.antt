@@ -4,9 +4,9 @@ use mathlib.Core.List.{List}
 use native.Mathlib.Omega.{arith}
 use borrow.Author.Needs.{needs}
 use lib.ListN.{length, getD, length-set}
-use Rattle.seq.proofs.Tabulate.{upto, upto-start, upto-more, upto-end}
+use Rattle.seq.proofs.Tabulate.{upto, upto-more}
 use Rattle.moves.specs.Moved.{placed}
-use Rattle.moves.proofs.Placed.{placed-in, placed-out}
+use Rattle.moves.proofs.Placed.{placed-in, placing-starts, placing-ends}
 use Rattle.step.proofs.Rules.{starts}
 use Rattle.bytemap.proofs.put_entries.Statement.{statement}
 use Rattle.bytemap.proofs.put_entries.Tie as tie
@@ -28,7 +28,7 @@ start-is c = starts (c .before .before .before .args .register) (c .number .resu
 loop-holds : tie.Need-loop-holds Inv-loop μ-loop
 loop-holds c =
     let s = start-is c in
-    (upto-start _ _ _ _ (λ p h. placed-out _ _ _ _ p (λ e. omega arith)), omega arith, c .before .before .before .pre)
+    (placing-starts _ _ _ _ _ (omega arith), omega arith, c .before .before .before .pre)
 
 loop-again : tie.Need-loop-again Inv-loop μ-loop
 loop-again c =
@@ -50,7 +50,7 @@ returns c =
     let a = c .before .before in
     let s = start-is a in
     let d : a .number .result / 64 ≡ a .before .before .before .args .register .0 % 32 = omega arith in
-    c .before .loop .inv .0 ∙ upto-end _ _ _ _ (λ p h g. placed-out _ _ _ _ p (λ e. omega arith)) ∙ rw d
+    c .before .loop .inv .0 ∙ placing-ends _ _ _ _ _ (omega arith) ∙ rw d
 
 pub put-entries-spec : {M : Type 1} → statement M
 put-entries-spec =
