@@ -71,7 +71,7 @@ typedef struct {
     uint32_t evex;          /* 1 for an EVEX encoding, 0 for VEX */
     uint32_t destination;   /* destination register, 0 to 31 */
     uint32_t first;         /* first source register, 0 where the form has none */
-    uint32_t third;         /* register of the third operand, 0 for a memory form */
+    uint32_t third;         /* register of the third operand (ModRM r/m), 0 for a memory form */
     uint32_t mask;          /* opmask register, 0 for none and under VEX */
     uint32_t zeroing;       /* 1 if masked-off elements are zeroed, 0 if they are kept */
     uint32_t broadcast;     /* 1 if the memory operand is one element for all */

@@ -1,7 +1,7 @@
 //! `tarhuspo compare`: whether lists do the same, by their byte maps.
 
 use crate::answer::{refusal_at, Answer, Failure};
-use crate::input::{self, Inputs};
+use crate::input::{self, note_masks, Inputs};
 use crate::map::{self, Setting};
 use crate::options::{Known, Options, FEATURES, HEX, MASKS};
 use crate::places::{span, Source};
@@ -28,6 +28,11 @@ pub fn run(words: &[OsString]) -> Result<Answer, Failure> {
         codes.push((input::name(word), inputs.code(word)?));
     }
     let setting = Setting::given(&options, &mut inputs)?;
+    note_masks(
+        &options,
+        codes.iter().map(|(_, code)| code),
+        setting.features,
+    );
     let mut lists = Vec::new();
     for (number, (name, code)) in (1..).zip(codes) {
         lists.push(List::new(number, &name, &code, &setting));

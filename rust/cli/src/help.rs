@@ -155,7 +155,7 @@ usage: tarhuspo run CODE [--hex] [--registers FILE] [--masks FILE]
 
 Carries out the instructions of CODE. Prints how many (steps), where the next or
 the refused one starts (place), the status (answer), and the registers that
-changed, with their bytes.
+changed, with the numbers of the changed bytes.
 
   --registers FILE the registers before: 2,048 bytes, zmm0 first, in each the
                    lowest byte first; all zero if not given

@@ -2,6 +2,7 @@
 
 use crate::hex::{self, Odd};
 use crate::options::{expected, shortened, Options, HEX, MASKS};
+use crate::output::complain;
 use std::ffi::OsStr;
 use std::fs::File;
 use std::io::{self, Read};
@@ -105,6 +106,37 @@ impl Inputs {
             Ok(_) => Ok(bytes),
             Err(e) => Err(format!("expected a readable file, not {}: {e}", name(word))),
         }
+    }
+}
+
+/// Says so on standard error if an instruction goes by an opmask and none were given.
+pub fn note_masks<'a>(
+    options: &Options,
+    mut codes: impl Iterator<Item = &'a Vec<u8>>,
+    features: u32,
+) {
+    if !options.has(&MASKS) && codes.any(|code| uses_masks(code, features)) {
+        complain("tarhuspo: note: the opmasks are taken as zero (see --masks)\n");
+    }
+}
+
+fn uses_masks(code: &[u8], features: u32) -> bool {
+    let mut rest = code;
+    loop {
+        let decoded = tarhuspo::decode(rest, features);
+        if decoded.status != 0 || decoded.mask != 0 {
+            return decoded.status == 0;
+        }
+        rest = &rest[decoded.length as usize..];
+    }
+}
+
+/// Says so on standard error if what was read as bytes is hex text.
+pub fn note_hex(options: &Options, word: &OsStr, code: &[u8]) {
+    let is_read_as_bytes = !options.has(&HEX) && inline(word).is_none();
+    let text = std::str::from_utf8(code).unwrap_or("");
+    if is_read_as_bytes && hex::bytes(text).is_ok_and(|bytes| !bytes.is_empty()) {
+        complain("tarhuspo: note: this looks like hex text, which --hex reads\n");
     }
 }
 

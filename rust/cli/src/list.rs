@@ -1,7 +1,7 @@
 //! `tarhuspo list`: a list of instructions as text.
 
 use crate::answer::{refusal, Answer, Failure};
-use crate::input::Inputs;
+use crate::input::{note_hex, Inputs};
 use crate::options::{Options, HEX};
 use std::ffi::{OsStr, OsString};
 use tarhuspo::limits::TEXT_SIZE;
@@ -13,6 +13,7 @@ pub fn run(words: &[OsString]) -> Result<Answer, Failure> {
         _ => options.only("one list of instructions")?,
     };
     let code = Inputs::new(&options).code(word)?;
+    note_hex(&options, word, &code);
     let mut text = vec![0; TEXT_SIZE];
     let listed = tarhuspo::listing(&code, &mut text);
     if listed.status != 0 {

@@ -2,7 +2,7 @@
 
 use crate::answer::{Answer, Failure};
 use crate::features;
-use crate::input::Inputs;
+use crate::input::{note_masks, Inputs};
 use crate::options::{Known, Options, FEATURES, HEX, MASKS, OUT, REGISTERS};
 use crate::places::{range, REGISTER_SIZE};
 use std::ffi::OsString;
@@ -26,6 +26,7 @@ pub fn run(words: &[OsString]) -> Result<Answer, Failure> {
     };
     let masks = inputs.masks(&options)?;
     let features = features::given(&options)?;
+    note_masks(&options, [&code].into_iter(), features);
     let budget = options.number(&BUDGET)?.unwrap_or(MOST_STEPS);
 
     let mut file = before.clone();
@@ -46,7 +47,7 @@ fn report(ran: &Ran, length: usize, before: &[u8], after: &[u8]) -> String {
         0 => "The budget was spent.",
         _ => describe(status),
     };
-    let changed = changed(before, after);
+    let changed = changed(steps, before, after);
     format!(
         "steps:   {steps}\n\
          place:   {place} of {length}\n\
@@ -56,7 +57,7 @@ fn report(ran: &Ran, length: usize, before: &[u8], after: &[u8]) -> String {
 }
 
 /// The registers that are not as before, each with the bytes that are not.
-fn changed(before: &[u8], after: &[u8]) -> String {
+fn changed(steps: u64, before: &[u8], after: &[u8]) -> String {
     let pairs = before
         .chunks(REGISTER_SIZE)
         .zip(after.chunks(REGISTER_SIZE));
@@ -66,7 +67,7 @@ fn changed(before: &[u8], after: &[u8]) -> String {
     });
     let registers: Vec<_> = registers.collect();
     match registers[..] {
-        [] if before.iter().all(|byte| *byte == 0) => {
+        [] if steps > 0 && before.iter().all(|byte| *byte == 0) => {
             "none, as all registers were zero (see --registers)".to_string()
         }
         [] => "none".to_string(),

@@ -5,7 +5,7 @@ mod drawing;
 
 use crate::answer::{refusal, refusal_at, Answer, Failure};
 use crate::features;
-use crate::input::{self, Inputs};
+use crate::input::{self, note_masks, Inputs};
 use crate::options::{expected, Known, Options, FEATURES, HEX, MASKS, OUT, REGISTERS};
 use crate::output;
 use crate::places::{runs, span, Run, Source};
@@ -32,7 +32,7 @@ pub fn run(words: &[OsString]) -> Result<Answer, Failure> {
 /// What besides the code decides its map.
 pub struct Setting {
     masks: [u64; MASK_COUNT],
-    features: u32,
+    pub features: u32,
 }
 
 impl Setting {
@@ -59,6 +59,7 @@ fn build(words: &[OsString]) -> Result<Answer, Failure> {
     let mut inputs = Inputs::new(&options);
     let code = inputs.code(options.only("one list of instructions")?)?;
     let setting = Setting::given(&options, &mut inputs)?;
+    note_masks(&options, [&code].into_iter(), setting.features);
     let map = built(&code, &setting)
         .map_err(|built| Failure::Refused(refusal_at(built.place, built.status)))?;
     Ok(output::bytes(&options, "maps", as_bytes(&map))?)

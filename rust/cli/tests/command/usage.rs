@@ -1,6 +1,6 @@
 //! What all commands share: help, bad usage, output that cannot be written.
 
-use crate::tools::{assert_bad_usage, command, printed, ran, run};
+use crate::tools::{assert_bad_usage, command, printed, ran, run, run_bytes, run_with_input};
 use std::ffi::OsString;
 use std::fs::{File, OpenOptions};
 use std::os::unix::ffi::OsStringExt;
@@ -159,4 +159,48 @@ fn output_that_cannot_be_written_is_reported() {
         );
         assert_eq!(err.lines().count(), 1, "{err}");
     }
+}
+
+const MASKS_NOTE: &str = "tarhuspo: note: the opmasks are taken as zero (see --masks)\n";
+
+/// Where an instruction has an opmask and none are given, nobody should take the answer for another.
+#[test]
+fn missing_masks_are_noted() {
+    // VPSHUFD zmm1{k1}, zmm2, 0x1b, behind an instruction without an opmask.
+    let masked = "hex:C5E814CB62F17D4970CA1B";
+    let masks = "--masks=hex:0 1 0 0 0 0 0 0";
+    for command in [&["run"][..], &["map", "build"], &["compare", "hex:"]] {
+        let note_of = |more: &[&str]| {
+            let output = run_bytes(&[command, more].concat(), b"");
+            String::from_utf8(output.stderr).expect("UTF-8")
+        };
+        assert_eq!(note_of(&[masked]), MASKS_NOTE, "{command:?}");
+        assert_eq!(note_of(&[masked, masks]), "", "{command:?}");
+        assert_eq!(note_of(&["hex:C5E814CB"]), "", "{command:?}");
+    }
+}
+
+#[test]
+fn hex_text_that_is_read_as_bytes_is_noted() {
+    let (status, out, err) = run_with_input(&["list"], b"C5 F9 70 CA 1B\n");
+    assert_eq!(status, Some(0));
+    assert!(out.ends_with("0\t0\t-\t0\t3\n"), "{out}");
+    assert_eq!(
+        err,
+        "tarhuspo: note: this looks like hex text, which --hex reads\n"
+    );
+    let (_, _, err) = run_with_input(&["list", "--hex"], b"C5 F9 70 CA 1B\n");
+    assert_eq!(err, "");
+}
+
+/// Nothing was carried out, so that zero registers are not the reason.
+#[test]
+fn a_run_of_no_step_gives_no_reason() {
+    let (_, out, _) = run(&["run", "hex:C5F970CA1B", "--budget", "0"]);
+    assert!(out.ends_with("changed: none\n"), "{out}");
+    let (_, out, _) = run(&["run", "hex:C5F970CA1B"]);
+    assert!(
+        out.contains("changed: none, as all registers were zero"),
+        "{out}"
+    );
 }
