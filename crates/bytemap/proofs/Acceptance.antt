@@ -3,16 +3,15 @@ use Prim.Native.Nat.{ℕ, _≤_}
 use mathlib.Core.Path.{_≡_, refl}
 use mathlib.Core.Bool.{Bool, true, false}
 use mathlib.Core.List.{List}
-use native.Mathlib.Omega.{arith}
 use lib.Dec.{eqb, leb}
 use lib.ListN.{length}
 use borrow.Author.Tests.{eqb-true, leb-true, eq-eqb, le-leb}
 use Rattle.seq.specs.Choice.{if_then_else_, both}
 use Rattle.isa.specs.Kinds.{maskCount, mapEntries, codeLimit}
 use Rattle.isa.specs.Features.{featuresKnown}
-use Rattle.isa.specs.declared.refusal.Refusal.{Refusal}
 use Rattle.isa.specs.declared.refusal.Refusal.the-variants.{Argument, TooLong}
 use Rattle.run.specs.declared.Answer.{Answer}
+use Rattle.run.proofs.Splits.{no-done}
 use Rattle.bytemap.specs.Build.{buildSplit, scannedOf, mapOf, refusedBuild, buildOf, mapBuilt}
 use Rattle.bytemap.specs.Accepted.{Accepted}
 
@@ -23,9 +22,6 @@ module _ (code masks : List ℕ) (features : ℕ) where
     pub short : length code ≤ codeLimit
     pub done : buildSplit code features .answer ≡ Answer.Done
 
-  refuses : (why : Refusal) → Answer.Refused why ≡ Answer.Done → ⊥
-  refuses why e = let z : _≡_ {A = ℕ} 0 1 = cc in omega arith
-
   pub facts : Accepted code masks features → Facts
   unfolding Accepted buildOf scannedOf
   facts e = by (eqb (length masks) maskCount) refl (featuresKnown features) refl (leb (length code) codeLimit) refl e
@@ -33,9 +29,9 @@ module _ (code masks : List ℕ) (features : ℕ) where
       by : (t : Bool) → eqb (length masks) maskCount ≡ t → (u : Bool) → featuresKnown features ≡ u → (v : Bool) → leb (length code) codeLimit ≡ v
           → (if both t u then (if v then scannedOf code features else refusedBuild TooLong) else refusedBuild Argument) .answer ≡ Answer.Done → Facts
       by true p true q true r g = record { masks-size = eqb-true (length masks) maskCount p; known = q; short = leb-true (length code) codeLimit r; done = g }
-      by true p true q false r g = absurd (refuses _ g)
-      by true p false q v r g = absurd (refuses _ g)
-      by false p u q v r g = absurd (refuses _ g)
+      by true p true q false r g = absurd (no-done _ g)
+      by true p false q v r g = absurd (no-done _ g)
+      by false p u q v r g = absurd (no-done _ g)
 
   pub accepts : Facts → Accepted code masks features
   unfolding Accepted buildOf scannedOf

@@ -10,6 +10,7 @@ use borrow.Author.Tests.{eq-eqb, ne-eqb}
 use Rattle.decode.proofs.Laws.{accepted-size}
 use Rattle.seq.specs.Choice.{both}
 use Rattle.seq.proofs.Tabulate.{by-lt}
+use Rattle.seq.proofs.Choice.{both-true}
 use Rattle.isa.specs.declared.refusal.Refusal.{Refusal}
 use Rattle.isa.specs.declared.refusal.Refusal.the-variants.{Unmappable, MemoryLength}
 use Rattle.decode.specs.Instruction.{wantedOf}
@@ -19,7 +20,7 @@ use Rattle.moves.specs.Pick.{moveOf}
 use Rattle.moves.specs.Mappable.{byImmediate, inRegister, mappable}
 use Rattle.run.specs.Split.{Split, followed, split}
 use Rattle.run.specs.Run.{withoutMemory}
-use Rattle.run.proofs.Splits.{First, nothing, refused, goes, first, joined, empty-cut, zero-cut, next-cut, enough, settled, followed-by}
+use Rattle.run.proofs.Splits.{First, nothing, refused, goes, first, joined, empty-cut, zero-cut, next-cut, enough, settled, followed-by, no-done}
 use Rattle.run.specs.declared.Answer.{Answer}
 use Rattle.bytemap.specs.Build.{buildSplit}
 use Rattle.bytemap.proofs.Laws.{AllMapped}
@@ -34,22 +35,15 @@ any-fuel wanted why features k j code h g = by-lt k j
     (λ b. let e : j ≡ k + (j - k) = omega arith in sym (ap (λ (n : ℕ). split wanted why features n code) e ∙ enough wanted why features k (j - k) code h))
     (λ b. let e : k ≡ j + (k - j) = omega arith in ap (λ (n : ℕ). split wanted why features n code) e ∙ enough wanted why features j (k - j) code g)
 
-both-first : (a b : Bool) → both a b ≡ true → a ≡ true
-both-first true b e = refl
-both-first false b e = e
-
 register-wants : (t : Third) → inRegister t ≡ true → wantedOf t ≡ 0
 register-wants (Third.Register r) e = refl
 register-wants (Third.Memory bytes) e = let z : _≡_ {A = ℕ} 0 1 = cc in absurd (omega arith)
 
 mappable-plain : (x : Instruction) → mappable x ≡ true → withoutMemory x ≡ true
 unfolding mappable
-mappable-plain x e = eq-eqb 0 (wantedOf (x .third)) (sym (register-wants (x .third) (both-first (inRegister (x .third)) (byImmediate (moveOf (x .mnemonic) (x .immediate))) e)))
+mappable-plain x e = eq-eqb 0 (wantedOf (x .third)) (sym (register-wants (x .third) (both-true (inRegister (x .third)) (byImmediate (moveOf (x .mnemonic) (x .immediate))) e .0)))
 
 module _ (features : ℕ) where
-  no-done : (why : Refusal) → Answer.Refused why ≡ Answer.Done → ⊥
-  no-done why e = let z : _≡_ {A = ℕ} 0 1 = cc in omega arith
-
   -- a list that a map can say runs as it is mapped
   pub runs-as-mapped : (k : ℕ) (code : List ℕ) → cut features k code .answer ≡ Answer.Done → split withoutMemory MemoryLength features k code ≡ cut features k code
   runs-as-mapped zero code e = zero-cut withoutMemory MemoryLength features code ∙ sym (zero-cut mappable Unmappable features code)

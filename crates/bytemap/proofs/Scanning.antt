@@ -15,6 +15,7 @@ use Rattle.moves.specs.Pick.{moveOf}
 use Rattle.moves.specs.Mappable.{byImmediate, inRegister, mappable}
 use Rattle.moves.specs.declared.Move.{Move}
 use Rattle.run.specs.Split.{Split, stopped, split}
+use Rattle.run.proofs.Splits.{no-done}
 use Rattle.run.proofs.Rests.{rest, rest-ends, rest-refused, rest-unwanted, Next, next-is}
 use Rattle.run.specs.declared.Answer.{Answer}
 use Rattle.isa.specs.Kinds.{mapEntries, zeroEntry}
@@ -107,23 +108,20 @@ module _ (code masks : List ℕ) (features : ℕ) where
   unfolding mapsOf
   written place m w h = sym (w .maps ∙ rw (rest-ends mappable Unmappable features code place h))
 
-  no-refusal : (why : Refusal) → Answer.Refused why ≡ Answer.Done → ⊥
-  no-refusal why e = let z : _≡_ {A = ℕ} 0 1 = cc in omega arith
-
   module _ (place : ℕ) (m : List ℕ) (w : Writing place m) (h : place < length code) (part : List ℕ) (pp : part ≡ drop place code) (d : Decoded) (pd : d ≡ decodeOf part features) where
     abbrev decodes : decodeOf (drop place code) features ≡ d
     decodes = ap (λ (l : List ℕ). decodeOf l features) (sym pp) ∙ sym pd
 
     -- no step of an accepted list is refused
     pub never-refused : (why : Refusal) → d ≡ Decoded.Refused why → ⊥
-    never-refused why q = no-refusal why (sym (ap (λ (s : Split). s .answer) (rest-refused mappable Unmappable features code place h why (decodes ∙ q))) ∙ w .done)
+    never-refused why q = no-done why (sym (ap (λ (s : Split). s .answer) (rest-refused mappable Unmappable features code place h why (decodes ∙ q))) ∙ w .done)
 
     mapped : (x : Instruction) → d ≡ Decoded.Accepted x → mappable x ≡ true
     mapped x q = by (mappable x) refl
       where
         by : (t : Bool) → mappable x ≡ t → mappable x ≡ true
         by true p = p
-        by false p = absurd (no-refusal Unmappable (sym (ap (λ (s : Split). s .answer) (rest-unwanted mappable Unmappable features code place h x (decodes ∙ q) p)) ∙ w .done))
+        by false p = absurd (no-done Unmappable (sym (ap (λ (s : Split). s .answer) (rest-unwanted mappable Unmappable features code place h x (decodes ∙ q) p)) ∙ w .done))
 
     pub write-next : (x : Instruction) → d ≡ Decoded.Accepted x → Mapped code features place h x
     write-next x q = next-is mappable Unmappable features code place h x (decodes ∙ q) (mapped x q)

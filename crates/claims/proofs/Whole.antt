@@ -9,6 +9,7 @@ use lib.Dec.{leb}
 use lib.ListN.{length, getD, length-map, List·getD-map}
 use borrow.Author.Tests.{eq-eqb, le-leb, leb-true}
 use Rattle.seq.specs.Choice.{both}
+use Rattle.seq.proofs.Choice.{both-true}
 use Rattle.seq.proofs.Tabulate.{by-lt}
 use Rattle.isa.specs.Kinds.{fileSize, maskCount, mapEntries, zeroEntry, codeLimit}
 use Rattle.isa.specs.declared.refusal.Refusal.the-variants.{Unmappable, MemoryLength}
@@ -16,7 +17,6 @@ use Rattle.run.specs.declared.Answer.{Answer}
 use Rattle.run.specs.Split.{Split}
 use Rattle.run.specs.Run.{wholeBudget, withoutMemory, runSplit, filesOf, steppedRun, steppedFile, runOf, fileAfterRun}
 use Rattle.run.proofs.Splits.{zero-cut}
-use Rattle.run.proofs.Order.{both-true}
 use Rattle.run.proofs.Laws.{Passed, run-is, file-is}
 use Rattle.moves.specs.Mappable.{mappable}
 use Rattle.bytemap.specs.ByteMap.{fine, readByte, readEntry, applied, composed, applyOf, fileApplied, composeOf, mapComposed}

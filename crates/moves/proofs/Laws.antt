@@ -11,7 +11,7 @@ use lib.ListN.{length, getD, take, drop, length-map, List·getD-map, List·getD-
 use borrow.Author.Tests.{le-leb, eq-eqb, eqb-false}
 use Rattle.seq.specs.Choice.{if_then_else_, both}
 use Rattle.seq.specs.Tabulate.{tabulate}
-use Rattle.seq.proofs.Choice.{of-either}
+use Rattle.seq.proofs.Choice.{of-either, both-true}
 use Rattle.seq.proofs.Tabulate.{by-lt, length-tabulate, getD-tabulate, tabulate-ext, map-tabulate}
 use Rattle.seq.proofs.Parts.{map-take, map-drop, part-same, every, at-every}
 use Rattle.isa.specs.Kinds.{registers, registerBytes, offsetOf}
@@ -117,10 +117,6 @@ control-fixed LaneByThird e m f t f′ t′ = let z : _≡_ {A = ℕ} 0 1 = cc i
 control-fixed AnyByFirst e m f t f′ t′ = let z : _≡_ {A = ℕ} 0 1 = cc in absurd (omega arith)
 control-fixed UnpackLow e m f t f′ t′ = refl
 control-fixed LaneOrZero e m f t f′ t′ = refl
-
-both-true : (a b : Bool) → both a b ≡ true → (a ≡ true) × (b ≡ true)
-both-true true b e = (refl, e)
-both-true false b e = let z : _≡_ {A = ℕ} 0 1 = cc in absurd (omega arith)
 
 no-memory : {A : Type 0} (t : ThirdOperand.Third) → inRegister t ≡ true → (memory memory′ file : List A) → thirdPart t memory file ≡ thirdPart t memory′ file
 no-memory (ThirdOperand.Third.Register r) e memory memory′ file = refl

@@ -22,12 +22,9 @@ use Rattle.step.specs.Step.{movedFile, executedOf, executedFile, sizesRight, st
 use Rattle.step.specs.declared.Stepped.{Stepped}
 use Rattle.run.specs.Split.{Split, stopped, split}
 use Rattle.run.specs.Run.{wholeBudget, withoutMemory, runSplit, filesOf, steppedRun, steppedFile, refusedRun, runOf, fileAfterRun}
-use Rattle.run.proofs.Splits.{joined, counted, settled, in-two, refusal-stays, empty-cut}
+use Rattle.run.proofs.Splits.{joined, counted, settled, in-two, refusal-stays, empty-cut, no-done}
 use Rattle.run.specs.declared.Answer.{Answer}
 use Rattle.run.specs.declared.Ran.{Ran}
-
-no-done : (why : Refusal) → Answer.Refused why ≡ Answer.Done → ⊥
-no-done why e = let z : _≡_ {A = ℕ} 0 1 = cc in omega arith
 
 pub files-join : (xs ys : List Instruction) (masks file : List ℕ) → filesOf (xs ++ ys) masks file ≡ filesOf ys masks (filesOf xs masks file)
 unfolding filesOf

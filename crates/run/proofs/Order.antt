@@ -1,10 +1,8 @@
 -- The order of answers that runs share with byte maps and listings: the sizes and features, then one more test, then the work. A refusal keeps what was
 -- there.
-use Prim.Native.Nat.{ℕ}
-use mathlib.Core.Path.{_≡_, refl}
+use mathlib.Core.Path.{_≡_}
 use mathlib.Core.Bool.{Bool, true, false}
-use native.Mathlib.Omega.{arith}
-use Rattle.seq.specs.Choice.{if_then_else_, both}
+use Rattle.seq.specs.Choice.{if_then_else_}
 
 -- the tests, what each answers where it fails, and what there is in a buffer
 pub record Order (A B : Type 0) : Type 0 where
@@ -29,11 +27,3 @@ module _ {A B : Type 0} (o : Order A B) where
 
     pub all-pass : o .test ≡ true → (r : A) (after : B) → (r ≡ o .done) × (after ≡ o .new) → Gives r after
     all-pass t r after e = (rw (h, t) (e .0), rw (h, t) (e .1))
-
--- both tests passed
-pub both-true : (a b : Bool) → both a b ≡ true → (a ≡ true) × (b ≡ true)
-both-true true b e = (refl, e)
-both-true false b e = (e, absurd (no-false e))
-  where
-    no-false : false ≡ true → ⊥
-    no-false q = let z : _≡_ {A = ℕ} 0 1 = cc in omega arith

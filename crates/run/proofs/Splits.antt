@@ -22,7 +22,7 @@ use Rattle.run.specs.declared.Answer.{Answer}
 abbrev pub joined : Split → Split → Split
 joined s t = record { instructions = s .instructions ++ t .instructions; place = s .place + t .place; answer = t .answer }
 
-no-done : (why : Refusal) → Answer.Refused why ≡ Answer.Done → ⊥
+pub no-done : (why : Refusal) → Answer.Refused why ≡ Answer.Done → ⊥
 no-done why e = let z : _≡_ {A = ℕ} 0 1 = cc in omega arith
 
 empty-is : (l : List ℕ) → length l ≡ 0 → l ≡ []

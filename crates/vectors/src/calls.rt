@@ -16,7 +16,7 @@ use seq::byte_at;
 // Bytes of the longest record.
 pub const RECORD_ROOM: usize = 20;
 
-// A buffer that may be written is lent without its first and last elements, and digested with them.
+// A buffer that may be written is passed without its first and last elements, and digested with them.
 const GUARD: usize = 8;
 
 const ROOM: usize = 2560;

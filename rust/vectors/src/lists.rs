@@ -3,7 +3,7 @@
 use crate::digest::Digest;
 use crate::layout::{Record, Span, CODE_ROOM, ROOM, TEXT_MOST, TEXT_ROOM};
 use crate::maker::Maker;
-use crate::pools::{lent, old_map, Pools};
+use crate::pools::{old_map, passed, Pools};
 use crate::section::{Answer, Input, Kind};
 use inputs::faults::{Fault, FEATURE_SETS};
 use inputs::limits::features::ALL;
@@ -75,7 +75,7 @@ impl Input for Run<'_> {
         let mut file = pools.bytes(input.file.start, ROOM);
         let ran = reference::run(
             &input.code,
-            lent(&mut file, input.file),
+            passed(&mut file, input.file),
             &pools.masks(input.masks),
             input.features,
             input.budget,
@@ -102,7 +102,7 @@ impl Input for Build<'_> {
             &input.code,
             &pools.masks(input.masks),
             input.features,
-            lent(&mut map, input.map),
+            passed(&mut map, input.map),
         );
         Answer {
             status: built.status,
@@ -120,7 +120,7 @@ impl Input for Listing<'_> {
     fn answer(&self, pools: &Pools) -> Answer {
         let input = self.0;
         let mut text = pools.bytes(input.text.start, TEXT_ROOM);
-        let listed = reference::listing(&input.code, lent(&mut text, input.text));
+        let listed = reference::listing(&input.code, passed(&mut text, input.text));
         Answer {
             status: listed.status,
             numbers: vec![listed.written],

@@ -3,7 +3,7 @@
 use crate::digest::Digest;
 use crate::layout::{Map, Record, Span, ROOM};
 use crate::maker::Maker;
-use crate::pools::{lent, old_map, Pools, BUILT_MAPS};
+use crate::pools::{old_map, passed, Pools, BUILT_MAPS};
 use crate::section::{Answer, Input, Kind};
 use inputs::limits::{MAP_SIZE, MAP_ZERO};
 
@@ -51,7 +51,7 @@ impl Input for Apply {
 
     fn answer(&self, pools: &Pools) -> Answer {
         let mut file = pools.bytes(self.file.start, ROOM);
-        let status = reference::apply(&pools.map(self.map), lent(&mut file, self.file));
+        let status = reference::apply(&pools.map(self.map), passed(&mut file, self.file));
         Answer {
             status,
             numbers: vec![],
@@ -69,7 +69,7 @@ impl Input for Compose {
     fn answer(&self, pools: &Pools) -> Answer {
         let mut out = old_map(self.out.start);
         let (first, second) = (pools.map(self.first), pools.map(self.second));
-        let status = reference::compose(&first, &second, lent(&mut out, self.out));
+        let status = reference::compose(&first, &second, passed(&mut out, self.out));
         Answer {
             status,
             numbers: vec![],

@@ -52,7 +52,7 @@ impl Pools {
         part(&self.masks, span.start, span.length.into())
     }
 
-    /// The map that is lent. A place behind it is set too, and is not lent.
+    /// The map that is passed. A place behind it is set too, and is not passed.
     pub fn map(&self, map: Map) -> Vec<u16> {
         let mut entries = part(&self.entries, map.span.start, ROOM);
         if let Some(entry) = entries.get_mut(usize::from(map.place)) {
@@ -69,8 +69,8 @@ pub fn old_map(start: u16) -> Vec<u16> {
     numbers.map(|number| number as u16).collect()
 }
 
-/// The part of a buffer with guards that is lent.
-pub fn lent<T>(buffer: &mut [T], span: Span) -> &mut [T] {
+/// The part of a buffer with guards that is passed.
+pub fn passed<T>(buffer: &mut [T], span: Span) -> &mut [T] {
     &mut buffer[GUARD..][..span.length.into()]
 }
 

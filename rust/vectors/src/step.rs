@@ -3,7 +3,7 @@
 use crate::digest::Digest;
 use crate::layout::{Record, Span, MEMORY_MOST, ROOM};
 use crate::maker::Maker;
-use crate::pools::{lent, Pools};
+use crate::pools::{passed, Pools};
 use crate::section::{Answer, Input, Kind};
 use inputs::faults::Fault;
 use inputs::limits::features::ALL;
@@ -50,7 +50,7 @@ impl Input for Step {
         let mut file = pools.bytes(self.file.start, ROOM);
         let stepped = reference::step(
             &self.code,
-            lent(&mut file, self.file),
+            passed(&mut file, self.file),
             &pools.masks(self.masks),
             self.features,
             &pools.bytes(self.memory.start, self.memory.length.into()),

@@ -7,10 +7,11 @@ use borrow.Author.Tests.{eqb-true}
 use lib.Dec.{eqb}
 use lib.ListN.{length}
 use Rattle.seq.specs.Choice.{both}
+use Rattle.seq.proofs.Choice.{both-true}
 use Rattle.isa.specs.Kinds.{fileSize, mapEntries}
 use Rattle.isa.specs.declared.refusal.Refusal.the-variants.{Argument, BadEntry}
 use Rattle.run.specs.declared.Answer.{Answer}
-use Rattle.run.proofs.Order.{Order, wrong-sizes, test-fails, all-pass, both-true}
+use Rattle.run.proofs.Order.{Order, wrong-sizes, test-fails, all-pass}
 use Rattle.bytemap.specs.ByteMap.{fine, applied, applyOf, fileApplied}
 use Rattle.bytemap.proofs.apply.Statement.{statement}
 use Rattle.bytemap.proofs.apply.Tie as tie

@@ -7,10 +7,11 @@ use borrow.Author.Tests.{eqb-true, le-leb, lt-leb}
 use lib.Dec.{eqb, leb}
 use lib.ListN.{length}
 use Rattle.seq.specs.Choice.{both}
+use Rattle.seq.proofs.Choice.{both-true}
 use Rattle.isa.specs.Kinds.{maskCount, mapEntries, codeLimit}
 use Rattle.isa.specs.Features.{featuresKnown}
 use Rattle.isa.specs.declared.refusal.Refusal.the-variants.{Argument, TooLong}
-use Rattle.run.proofs.Order.{Order, wrong-sizes, test-fails, all-pass, both-true}
+use Rattle.run.proofs.Order.{Order, wrong-sizes, test-fails, all-pass}
 use Rattle.bytemap.specs.Build.{buildSplit, scannedOf, mapOf, rightSizes, refusedBuild, buildOf, mapOnAnswer, mapBuilt}
 use Rattle.bytemap.specs.declared.Built.{Built}
 use Rattle.bytemap.proofs.build.Statement.{statement}

@@ -6,13 +6,14 @@ use borrow.Author.Tests.{eqb-true, le-leb, lt-leb}
 use lib.Dec.{eqb, leb}
 use lib.ListN.{length}
 use Rattle.seq.specs.Choice.{both}
+use Rattle.seq.proofs.Choice.{both-true}
 use Rattle.isa.specs.Kinds.{fileSize, maskCount, codeLimit}
 use Rattle.isa.specs.Features.{featuresKnown}
 use Rattle.isa.specs.declared.refusal.Refusal.the-variants.{Argument, TooLong}
 use Rattle.step.specs.Step.{sizesRight}
 use Rattle.run.specs.Run.{steppedRun, steppedFile, refusedRun, runOf, fileAfterRun}
 use Rattle.run.specs.declared.Ran.{Ran}
-use Rattle.run.proofs.Order.{Order, wrong-sizes, test-fails, all-pass, both-true}
+use Rattle.run.proofs.Order.{Order, wrong-sizes, test-fails, all-pass}
 use Rattle.run.proofs.run.Statement.{statement}
 use Rattle.run.proofs.run.Tie as tie
 
