@@ -1,5 +1,5 @@
 -- The laws of byte maps: entries move as bytes do, a list's map names places alone, and reading through maps.
-use Prim.Native.Nat.{ℕ, suc, _+_, _/_, _%_, _<_, _≤_}
+use Prim.Native.Nat.{ℕ, suc, _+_, _*_, _/_, _%_, _<_, _≤_}
 use mathlib.Core.Path.{_≡_, refl, sym, _∙_, ap}
 use mathlib.Core.Bool.{Bool, true, false, cond}
 use mathlib.Core.List.{List, [], _∷_, _++_, map}
@@ -13,10 +13,11 @@ use Rattle.seq.specs.Tabulate.{tabulate}
 use Rattle.seq.proofs.Choice.{of-either}
 use Rattle.seq.proofs.Tabulate.{by-lt, length-tabulate, getD-tabulate, tabulate-getD, tabulate-ext, map-tabulate}
 use Rattle.isa.specs.Kinds.{registers, registerBytes, fileSize, mapEntries, zeroEntry, offsetOf}
+use Rattle.isa.specs.Operands.{elementBytes}
 use Rattle.decode.specs.declared.instruction.Third.{Third}
 use Rattle.decode.specs.declared.instruction.Instruction.{Instruction}
 use Rattle.moves.specs.Origin.{bitsOf, originOf}
-use Rattle.moves.specs.Moved.{held, registerAt, firstRegister, thirdPart, repeated, controlOf, entryOf, placed, moved}
+use Rattle.moves.specs.Moved.{held, registerAt, firstRegister, thirdPart, repeated, controlAt, entryOf, placed, moved}
 use Rattle.moves.specs.Mappable.{mappable}
 use Rattle.moves.proofs.Laws.{length-moved, moved-at, mappable-moves}
 use Rattle.moves.proofs.Placed.{part-entry}
@@ -80,11 +81,11 @@ third-low : (t : Third) (m : List ℕ) → length m ≡ mapEntries → Low m →
 third-low (Third.Register r) m e h j = rw (part-entry zeroEntry m r j e) (h (offsetOf r j .0))
 third-low (Third.Memory bytes) m e h j = le-refl zeroEntry
 
-held-low : (f t : ℕ → ℕ) (k : ℕ) (o : Origin) → ((j : ℕ) → f j ≤ zeroEntry) → ((j : ℕ) → t j ≤ zeroEntry) → k ≤ zeroEntry → held zeroEntry f t k o ≤ zeroEntry
-held-low f t k (Origin.First j) p q r = p j
-held-low f t k (Origin.Third j) p q r = q j
-held-low f t k Origin.Zero p q r = le-refl zeroEntry
-held-low f t k Origin.Kept p q r = r
+held-low : (n : ℕ) (f t k : ℕ → ℕ) (o : Origin) (b : ℕ) → ((i : ℕ) → f i ≤ zeroEntry) → ((i : ℕ) → t i ≤ zeroEntry) → ((i : ℕ) → k i ≤ zeroEntry) → held zeroEntry n f t k o b ≤ zeroEntry
+held-low n f t k (Origin.First p) b hf ht hk = hf (n * p + b)
+held-low n f t k (Origin.Third p) b hf ht hk = ht (n * p + b)
+held-low n f t k (Origin.Destination p) b hf ht hk = hk (n * p + b)
+held-low n f t k Origin.Zero b hf ht hk = le-refl zeroEntry
 
 abbrev AtMost : ℕ → Type 0
 AtMost n = n ≤ zeroEntry
@@ -96,8 +97,11 @@ placed-low m r new p f h = of-either AtMost (eqb (p / registerBytes) r) _ _ (f (
 entry-low : (x : Instruction) (bits : ℕ) (m : List ℕ) (i : ℕ) → length m ≡ mapEntries → Low m → entryIn x bits m i ≤ zeroEntry
 unfolding entryOf
 entry-low x bits m i e h =
-    held-low (registerAt zeroEntry m (firstRegister (x .first))) (repeated zeroEntry (thirdPart (x .third) [] m)) (registerAt zeroEntry m (x .destination) i) (originOf x bits (controlOf (λ e. 0) zeroEntry x (thirdPart (x .third) [] m) m i) i)
-    (λ j. h (offsetOf (firstRegister (x .first)) j .0)) (third-low (x .third) m e h) (h (offsetOf (x .destination) i .0))
+    let n = elementBytes (x .element) in
+    let part = thirdPart (x .third) [] m in
+    held-low n (registerAt zeroEntry m (firstRegister (x .first))) (repeated zeroEntry part) (registerAt zeroEntry m (x .destination))
+    (originOf x bits (controlAt (λ e. 0) zeroEntry x part m (i / n)) (i / n)) (i % n)
+    (λ j. h (offsetOf (firstRegister (x .first)) j .0)) (third-low (x .third) m e h) (λ j. h (offsetOf (x .destination) j .0))
 
 step-low : (x : Instruction) (masks m : List ℕ) → length m ≡ mapEntries → Low m → Low (movedMap x masks m)
 step-low x masks m e h p = by-lt p (length m)

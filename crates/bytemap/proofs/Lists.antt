@@ -16,8 +16,7 @@ use Rattle.isa.specs.declared.refusal.Refusal.the-variants.{Unmappable, MemoryL
 use Rattle.decode.specs.Instruction.{wantedOf}
 use Rattle.decode.specs.declared.instruction.Third.{Third}
 use Rattle.decode.specs.declared.instruction.Instruction.{Instruction}
-use Rattle.moves.specs.Pick.{moveOf}
-use Rattle.moves.specs.Mappable.{byImmediate, inRegister, mappable}
+use Rattle.moves.specs.Mappable.{inInstruction, inRegister, mappable}
 use Rattle.run.specs.Split.{Split, followed, split}
 use Rattle.run.specs.Run.{withoutMemory}
 use Rattle.run.proofs.Splits.{First, nothing, refused, goes, first, joined, empty-cut, zero-cut, next-cut, enough, settled, followed-by, no-done}
@@ -41,7 +40,7 @@ register-wants (Third.Memory bytes) e = let z : _≡_ {A = ℕ} 0 1 = cc in absu
 
 mappable-plain : (x : Instruction) → mappable x ≡ true → withoutMemory x ≡ true
 unfolding mappable
-mappable-plain x e = eq-eqb 0 (wantedOf (x .third)) (sym (register-wants (x .third) (both-true (inRegister (x .third)) (byImmediate (moveOf (x .mnemonic) (x .immediate))) e .0)))
+mappable-plain x e = eq-eqb 0 (wantedOf (x .third)) (sym (register-wants (x .third) (both-true (inRegister (x .third)) (inInstruction (x .control)) e .0)))
 
 module _ (features : ℕ) where
   -- a list that a map can say runs as it is mapped

@@ -1,73 +1,56 @@
 -- What each function on a map's entries gives, by what its callees gave.
-use Prim.Native.Nat.{ℕ, _%_}
-use mathlib.Core.Path.{_≡_, refl, _∙_, sym, ap}
-use mathlib.Core.Bool.{Bool, true, false}
+use Prim.Native.Nat.{ℕ, _+_, _*_, _/_, _%_}
+use mathlib.Core.Path.{_≡_, _∙_, sym, ap}
 use mathlib.Core.List.{List, []}
-use native.Mathlib.Omega.{arith}
 use lib.ListN.{length, getD}
 use Rattle.seq.specs.Tabulate.{tabulate}
 use Rattle.seq.proofs.Tabulate.{getD-tabulate}
 use Rattle.isa.specs.Kinds.{registers, mapEntries, zeroEntry}
 use Rattle.isa.specs.declared.kinds.Reg.{Reg}
+use Rattle.isa.specs.Operands.{elementBytes}
+use Rattle.isa.specs.declared.operands.Control.{Control}
 use Rattle.decode.specs.declared.instruction.Third.{Third}
 use Rattle.decode.specs.declared.instruction.Instruction.{Instruction}
-use Rattle.moves.specs.Pick.{moveOf, immediateByte}
 use Rattle.moves.specs.Origin.{bitsOf, originOf}
-use Rattle.moves.specs.Moved.{registerAt, firstRegister, thirdPart, repeated, controlBy, controlOf, entryOf, placed, moved}
-use Rattle.moves.specs.Mappable.{byImmediate}
+use Rattle.moves.specs.Moved.{registerAt, firstRegister, thirdPart, repeated, immediateByte, controlBy, controlAt, entryOf, placed, moved}
 use Rattle.moves.proofs.Placed.{part-entry, placed-ext}
-use Rattle.moves.specs.declared.Move.{Move}
 use Rattle.moves.specs.declared.Origin.{Origin}
 use Rattle.bytemap.specs.Build.{movedMap}
-use Rattle.bytemap.specs.Inner.{entryIn}
+use Rattle.bytemap.specs.Inner.{heldIn, entryIn}
 
 pub third-register : (m : List ℕ) (t : Third) (r : Reg) (j e : ℕ) → length m ≡ mapEntries → t ≡ Third.Register r → e ≡ registerAt zeroEntry m r j → e ≡ repeated zeroEntry (thirdPart t [] m) j
 third-register m t r j e l p q = q ∙ rw p (sym (part-entry zeroEntry m r j l))
 
-module _ (k : Move) (m : ℕ) where
-  by-true : byImmediate k ≡ true → m ≡ controlBy k m 0 0
-  by-true = go k
-    where
-      go : (k : Move) → byImmediate k ≡ true → m ≡ controlBy k m 0 0
-      go Move.LaneByImmediate e = refl
-      go Move.LaneByThird e = let z : _≡_ {A = ℕ} 0 1 = cc in absurd (omega arith)
-      go Move.AnyByFirst e = let z : _≡_ {A = ℕ} 0 1 = cc in absurd (omega arith)
-      go Move.UnpackLow e = refl
-      go Move.LaneOrZero e = refl
+module _ (k : Control) (m r : ℕ) where
+  pub control-nowhere : k ≡ Control.Nowhere → 0 ≡ controlBy k m 0 0
+  control-nowhere q = rw q
 
-  by-false : byImmediate k ≡ false → 0 ≡ controlBy k m 0 0
-  by-false = go k
-    where
-      go : (k : Move) → byImmediate k ≡ false → 0 ≡ controlBy k m 0 0
-      go Move.LaneByImmediate e = let z : _≡_ {A = ℕ} 0 1 = cc in absurd (omega arith)
-      go Move.LaneByThird e = refl
-      go Move.AnyByFirst e = refl
-      go Move.UnpackLow e = let z : _≡_ {A = ℕ} 0 1 = cc in absurd (omega arith)
-      go Move.LaneOrZero e = let z : _≡_ {A = ℕ} 0 1 = cc in absurd (omega arith)
+  pub control-immediate : k ≡ Control.Immediate → r ≡ m → r ≡ controlBy k m 0 0
+  control-immediate q e = e ∙ rw q
 
-module _ (x : Instruction) (k : Move) (pk : k ≡ moveOf (x .mnemonic) (x .immediate)) (t : Bool) (pt : t ≡ byImmediate k) where
-  pub control-immediate : t ≡ true → (r : ℕ) → r ≡ immediateByte (x .immediate) → r ≡ controlBy (moveOf (x .mnemonic) (x .immediate)) (immediateByte (x .immediate)) 0 0
-  control-immediate q r e = e ∙ rw (← pk) (by-true k (immediateByte (x .immediate)) (sym pt ∙ q))
+  pub control-first : k ≡ Control.First → 0 ≡ controlBy k m 0 0
+  control-first q = rw q
 
-  pub control-none : t ≡ false → 0 ≡ controlBy (moveOf (x .mnemonic) (x .immediate)) (immediateByte (x .immediate)) 0 0
-  control-none q = rw (← pk) (by-false k (immediateByte (x .immediate)) (sym pt ∙ q))
+  pub control-third : k ≡ Control.Third → 0 ≡ controlBy k m 0 0
+  control-third q = rw q
 
-module _ (x : Instruction) (bits : ℕ) (m : List ℕ) (i c : ℕ) (pc : c ≡ controlBy (moveOf (x .mnemonic) (x .immediate)) (immediateByte (x .immediate)) 0 0) (o : Origin) (po : o ≡ originOf x bits c i) where
-  pub entry-first : (j : ℕ) → o ≡ Origin.First j → (f : Reg) → f ≡ firstRegister (x .first) → (r : ℕ) → r ≡ registerAt zeroEntry m f j → r ≡ entryIn x bits m i
-  unfolding entryOf controlOf
-  entry-first j q f p r e = e ∙ rw (← pc, ← po, q, p)
+module _ (x : Instruction) (m : List ℕ) (o : Origin) (b i : ℕ) where
+  pub held-first : (p : ℕ) → o ≡ Origin.First p → i ≡ elementBytes (x .element) * p + b → (f : Reg) → f ≡ firstRegister (x .first) → (r : ℕ) → r ≡ registerAt zeroEntry m f i → r ≡ heldIn x m o b
+  held-first p q h f g r e = e ∙ rw (q, h, g)
 
-  pub entry-third : (j : ℕ) → o ≡ Origin.Third j → (r : ℕ) → r ≡ repeated zeroEntry (thirdPart (x .third) [] m) j → r ≡ entryIn x bits m i
-  unfolding entryOf controlOf
-  entry-third j q r e = e ∙ rw (← pc, ← po, q)
+  pub held-third : (p : ℕ) → o ≡ Origin.Third p → i ≡ elementBytes (x .element) * p + b → (r : ℕ) → r ≡ repeated zeroEntry (thirdPart (x .third) [] m) i → r ≡ heldIn x m o b
+  held-third p q h r e = e ∙ rw (q, h)
 
-  pub entry-zero : o ≡ Origin.Zero → zeroEntry ≡ entryIn x bits m i
-  unfolding entryOf controlOf
-  entry-zero q = rw (← pc, ← po, q)
+  pub held-old : (p : ℕ) → o ≡ Origin.Destination p → i ≡ elementBytes (x .element) * p + b → (r : ℕ) → r ≡ registerAt zeroEntry m (x .destination) i → r ≡ heldIn x m o b
+  held-old p q h r e = e ∙ rw (q, h)
 
-  pub entry-kept : o ≡ Origin.Kept → (r : ℕ) → r ≡ registerAt zeroEntry m (x .destination) i → r ≡ entryIn x bits m i
-  unfolding entryOf controlOf
-  entry-kept q r e = e ∙ rw (← pc, ← po, q)
+  pub held-zero : o ≡ Origin.Zero → zeroEntry ≡ heldIn x m o b
+  held-zero q = rw q
+
+pub entry-by : (x : Instruction) (bits : ℕ) (m : List ℕ) (i n c : ℕ) (o : Origin) (r : ℕ) → n ≡ elementBytes (x .element) → c ≡ controlBy (x .control) (immediateByte (x .immediate)) 0 0
+    → o ≡ originOf x bits c (i / n) → r ≡ heldIn x m o (i % n) → r ≡ entryIn x bits m i
+unfolding entryOf controlAt
+entry-by x bits m i n c o r p q h e = e ∙ rw (h, q, p)
 
 -- a step on a map, from its new entries
 pub moves-entries : (x : Instruction) (masks m new after : List ℕ) (bits : ℕ) → bits ≡ bitsOf masks (x .mask) → new ≡ tabulate 64 (entryIn x bits m)

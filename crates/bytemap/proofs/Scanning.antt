@@ -11,9 +11,7 @@ use Rattle.isa.specs.declared.refusal.Refusal.the-variants.{Unmappable}
 use Rattle.decode.specs.Decode.{decodeOf}
 use Rattle.decode.specs.declared.instruction.Instruction.{Instruction}
 use Rattle.decode.specs.declared.instruction.Decoded.{Decoded}
-use Rattle.moves.specs.Pick.{moveOf}
-use Rattle.moves.specs.Mappable.{byImmediate, inRegister, mappable}
-use Rattle.moves.specs.declared.Move.{Move}
+use Rattle.moves.specs.Mappable.{inInstruction, inRegister, mappable}
 use Rattle.run.specs.Split.{Split, stopped, split}
 use Rattle.run.proofs.Splits.{no-done}
 use Rattle.run.proofs.Rests.{rest, rest-ends, rest-refused, rest-unwanted, Next, next-is}
@@ -26,9 +24,9 @@ use Rattle.bytemap.specs.Inner.{refusedAt}
 use Rattle.bytemap.specs.declared.Built.{Built}
 
 module _ (x : Instruction) (t : Bool) (pt : t ≡ inRegister (x .third)) where
-  pub mapped-by : t ≡ true → (k : Move) → k ≡ moveOf (x .mnemonic) (x .immediate) → (r : Bool) → r ≡ byImmediate k → r ≡ mappable x
+  pub mapped-by : t ≡ true → (r : Bool) → r ≡ inInstruction (x .control) → r ≡ mappable x
   unfolding mappable
-  mapped-by q k p r e = e ∙ rw (p, sym pt ∙ q)
+  mapped-by q r e = e ∙ rw (sym pt ∙ q)
 
   pub not-mapped : t ≡ false → false ≡ mappable x
   unfolding mappable

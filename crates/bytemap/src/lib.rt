@@ -1,19 +1,20 @@
 // Byte maps (document 01: route sheets): for each byte of a register file, the byte of a starting file that it comes from, or zero.
 ghost use mathlib.Core.Path.{_≡_};
 ghost use mathlib.Core.List.{[]};
-ghost use Prim.Native.Nat.{_%_, _≤_};
+ghost use Prim.Native.Nat.{_+_, _*_, _%_, _≤_};
 ghost use Rattle.seq.specs.Tabulate.{tabulate};
 ghost use lib.Dec.{eqb};
 ghost use lib.ListN.{length, getD};
 ghost use Rattle.seq.specs.Choice.{both};
 ghost use Rattle.isa.specs.Kinds.{registers, fileSize, mapEntries, zeroEntry, codeLimit};
-ghost use Rattle.moves.specs.Pick.{moveOf, immediateByte};
-ghost use Rattle.moves.specs.Moved.{registerAt, thirdPart, repeated, controlBy, placed};
-ghost use Rattle.moves.specs.Mappable.{byImmediate, inRegister, mappable};
+ghost use Rattle.isa.specs.Operands.{elementBytes};
+ghost use Rattle.moves.specs.Moved.{registerAt, thirdPart, repeated, immediateByte, controlBy, placed};
+ghost use Rattle.moves.specs.Mappable.{inInstruction, inRegister, mappable};
 ghost use Rattle.bytemap.specs.Build.{buildSplit, scannedOf, identity, movedMap, mapOf, rightSizes, refusedBuild, buildOf, mapOnAnswer, mapBuilt};
-ghost use Rattle.bytemap.specs.Inner.{refusedAt, entryIn};
+ghost use Rattle.bytemap.specs.Inner.{refusedAt, heldIn, entryIn};
 ghost use Rattle.bytemap.specs.ByteMap.{fine, applied, composed, applyOf, fileApplied, composeOf, mapComposed};
 use decode::instruction::Decoded;
+use decode::instruction::Immediate;
 use decode::instruction::Instruction;
 use decode::instruction::Third;
 use isa::features::Features;
@@ -23,8 +24,9 @@ use isa::kinds::Mask;
 use isa::kinds::Offset;
 use isa::kinds::Reg;
 use isa::kinds::RegisterFile;
+use isa::operands::Control;
+use isa::operands::Element;
 use isa::refusal::Refusal;
-use moves::Move;
 use moves::Origin;
 use run::Answer;
 use seq::byte_at;
@@ -169,15 +171,14 @@ fn in_register(third: Third) -> bool
     }
 }
 
-fn by_immediate(kind: Move) -> bool
-    ensures { λ r. ⌜ r ≡ byImmediate kind ⌝ }
+fn in_instruction(control: Control) -> bool
+    ensures { λ r. ⌜ r ≡ inInstruction control ⌝ }
 {
-    match kind {
-        Move::LaneByImmediate => true,
-        Move::LaneByThird => false,
-        Move::AnyByFirst => false,
-        Move::UnpackLow => true,
-        Move::LaneOrZero => true,
+    match control {
+        Control::Nowhere => true,
+        Control::Immediate => true,
+        Control::First => false,
+        Control::Third => false,
     }
 }
 
@@ -186,10 +187,9 @@ fn is_mappable(x: Instruction) -> bool
     ensures { λ r. ⌜ r ≡ mappable x ⌝ }
 {
     let third = x.third;
-    let mnemonic = x.mnemonic;
-    let immediate = x.immediate;
+    let control = x.control;
     if in_register(third) {
-        return by_immediate(moves::move_of(mnemonic, immediate));
+        return in_instruction(control);
     }
     false
 }
@@ -238,16 +238,43 @@ fn third_entry(map: &[u16], third: Third, j: u32) -> u16
 }
 
 // The control, which no entry has.
-fn control(x: Instruction) -> u8
-    ensures { λ r. ⌜ r ≡ controlBy (moveOf (x .mnemonic) (x .immediate)) (immediateByte (x .immediate)) 0 0 ⌝ }
+fn control(from: Control, immediate: Immediate) -> u8
+    ensures { λ r. ⌜ r ≡ controlBy from (immediateByte immediate) 0 0 ⌝ }
 {
-    let mnemonic = x.mnemonic;
-    let immediate = x.immediate;
-    let kind = moves::move_of(mnemonic, immediate);
-    if by_immediate(kind) {
-        return moves::immediate_byte(immediate);
+    match from {
+        Control::Nowhere => 0,
+        Control::Immediate => moves::immediate_byte(immediate),
+        Control::First => 0,
+        Control::Third => 0,
     }
-    0
+}
+
+// Byte b of element p.
+fn byte_in(element: Element, p: u16, b: u8) -> u32
+    ensures { λ r. ⌜ r ≡ elementBytes element * p + b ⌝ }
+{
+    moves::element_start(element, p) + b as u32
+}
+
+// Entry b of what an element comes from.
+fn held_entry(x: Instruction, from: Origin, map: &[u16], b: u8) -> u16
+    requires { ⌜ length (now map) ≡ mapEntries ⌝ }
+    ensures { λ r. ⌜ r ≡ heldIn x (now (map .entry)) from b ⌝ }
+{
+    let first = x.first;
+    let third = x.third;
+    let destination = x.destination;
+    let element = x.element;
+    match from {
+        Origin::First(p) => register_entry(
+            map,
+            moves::first_register(first),
+            byte_in(element, p, b),
+        ),
+        Origin::Third(p) => third_entry(map, third, byte_in(element, p, b)),
+        Origin::Destination(p) => register_entry(map, destination, byte_in(element, p, b)),
+        Origin::Zero => ByteMap::ZERO,
+    }
 }
 
 // The destination's entry i.
@@ -255,15 +282,12 @@ fn entry(x: Instruction, bits: u64, map: &[u16], i: u8) -> u16
     requires { ⌜ length (now map) ≡ mapEntries ⌝ }
     ensures { λ r. ⌜ r ≡ entryIn x bits (now (map .entry)) i ⌝ }
 {
-    let first = x.first;
-    let third = x.third;
-    let destination = x.destination;
-    match moves::origin_of(x, bits, control(x), i) {
-        Origin::First(j) => register_entry(map, moves::first_register(first), j as u32),
-        Origin::Third(j) => third_entry(map, third, j as u32),
-        Origin::Zero => ByteMap::ZERO,
-        Origin::Kept => register_entry(map, destination, i as u32),
-    }
+    let from = x.control;
+    let immediate = x.immediate;
+    let element = x.element;
+    let n = element.bytes();
+    let origin = moves::origin_of(x, bits, control(from, immediate), i / n);
+    held_entry(x, origin, map, i % n)
 }
 
 fn entries(x: Instruction, bits: u64, map: &[u16]) -> [u16; 64]

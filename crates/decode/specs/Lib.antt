@@ -4,4 +4,4 @@ pub mod Modrm
 pub mod Reserved
 pub mod Instruction
 pub mod Decode
-pub mod Examples
+pub mod Cases

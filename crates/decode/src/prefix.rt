@@ -8,7 +8,7 @@ use isa::table::Key;
 
 // The fields of a prefix of any kind, none inverted.
 pub struct Prefix {
-    pub evex: u8,
+    pub encoding: u8,
     // Bytes of the prefix.
     pub size: u8,
     // R'.R
@@ -32,7 +32,7 @@ impl Prefix {
         ensures { λ r. ⌜ r ≡ keyOf self opcode ⌝ }
     {
         Key {
-            evex: self.evex,
+            encoding: self.encoding,
             pp: self.pp,
             map: self.map,
             opcode: opcode,
@@ -61,7 +61,7 @@ fn vex2(p: u8) -> Prefix
     ensures { λ r. ⌜ r ≡ vex2Of p ⌝ }
 {
     Prefix {
-        evex: Encoding::VEX,
+        encoding: Encoding::VEX,
         size: 2,
         r: 1 - p / 128 % 2,
         x: 0,
@@ -81,7 +81,7 @@ fn vex3(p: u8, q: u8) -> Prefix
     ensures { λ r. ⌜ r ≡ vex3Of p q ⌝ }
 {
     Prefix {
-        evex: Encoding::VEX,
+        encoding: Encoding::VEX,
         size: 3,
         r: 1 - p / 128 % 2,
         x: 1 - p / 64 % 2,
@@ -101,7 +101,7 @@ fn evex(p: u8, q: u8, s: u8) -> Prefix
     ensures { λ r. ⌜ r ≡ evexOf p q s ⌝ }
 {
     Prefix {
-        evex: Encoding::EVEX,
+        encoding: Encoding::EVEX,
         size: 4,
         r: 1 - p / 128 % 2 + 2 * (1 - p / 16 % 2),
         x: 1 - p / 64 % 2,

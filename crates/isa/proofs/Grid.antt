@@ -1,4 +1,4 @@
--- A row as the code keeps it, 12 numbers in a line, and as the definition has it.
+-- A row as the code keeps it, 16 numbers in a line, and as the definition has it.
 use Prim.Native.Nat.{ℕ, _+_, _*_, _/_, _%_}
 use mathlib.Core.Path.{_≡_, sym}
 use mathlib.Core.List.{List, [], _∷_, map}
@@ -8,14 +8,14 @@ use Rattle.isa.specs.declared.table.Row.{Row}
 
 abbrev columns : Row → List ℕ
 columns r =
-    r .mnemonic ∷ r .evex ∷ r .pp ∷ r .map ∷ r .opcode ∷ r .w ∷ r .least ∷ (r .immediate + 2 * r .first) ∷ r .element ∷ r .broadcast
-    ∷ r .needs ∷ r .needs256 ∷ []
+    r .mnemonic ∷ r .encoding ∷ r .pp ∷ r .map ∷ r .opcode ∷ r .w ∷ r .least ∷ (r .immediate + 2 * r .first) ∷ r .element ∷ r .broadcast
+    ∷ r .needs ∷ r .needs256 ∷ r .kind ∷ r .bits ∷ r .group ∷ r .control ∷ []
 
 abbrev toRow : List ℕ → Row
 toRow t =
     record {
       mnemonic = getD t 0 0;
-      evex = getD t 1 0;
+      encoding = getD t 1 0;
       pp = getD t 2 0;
       map = getD t 3 0;
       opcode = getD t 4 0;
@@ -27,6 +27,10 @@ toRow t =
       broadcast = getD t 9 0;
       needs = getD t 10 0;
       needs256 = getD t 11 0;
+      kind = getD t 12 0;
+      bits = getD t 13 0;
+      group = getD t 14 0;
+      control = getD t 15 0;
     }
 
 pub row-is : (i : ℕ) → toRow (getD (map columns rows) i []) ≡ getD rows i blank

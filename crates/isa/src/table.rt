@@ -4,14 +4,16 @@ ghost use Prim.Native.Nat.{_<_};
 ghost use lib.ListN.{length, getD};
 ghost use Rattle.isa.specs.Table.{rows, blank, matchesW, matchesRow, findIn};
 use crate::features::Features;
+use crate::operands::Control;
 use crate::operands::Encoding;
 use crate::operands::Mnemonic;
+use crate::operands::Move;
 use crate::operands::Width;
 
 // A decoding row. Its key is opcode, map, pp, encoding and, under EVEX, W.
 pub struct Row {
     pub mnemonic: u8,
-    pub evex: u8,
+    pub encoding: u8,
     pub pp: u8,
     pub map: u8,
     pub opcode: u8,
@@ -30,6 +32,11 @@ pub struct Row {
     // The feature needed, and the one at 256 bits.
     pub needs: u8,
     pub needs256: u8,
+    // How it chooses: the kind of move, the digits' bits or the control's first bit, the group's width, and the control.
+    pub kind: u8,
+    pub bits: u8,
+    pub group: u8,
+    pub control: u8,
 }
 
 impl Row {
@@ -38,7 +45,7 @@ impl Row {
 
 // What a row is looked up by.
 pub struct Key {
-    pub evex: u8,
+    pub encoding: u8,
     pub pp: u8,
     pub map: u8,
     pub opcode: u8,
@@ -94,18 +101,205 @@ const F: u8 = Features::AVX512F;
 
 const VBMI: u8 = Features::AVX512_VBMI;
 
-// Mnemonic, encoding, pp, map, opcode, W, least width, operands, element bytes, broadcast, feature needed, feature needed at 256 bits.
-const ROWS: [[u8; 12]; 10] = [
-    [VPERMILPD, VEX, 1, 3, 0x05, W0, XMM, RMI, 8, NO, AVX, AVX],
-    [VPERMILPD, EVEX, 1, 3, 0x05, W1, XMM, RMI, 8, BCST, F, F],
-    [VPERMILPD, VEX, 1, 2, 0x0D, W0, XMM, RVM, 8, NO, AVX, AVX],
-    [VPERMILPD, EVEX, 1, 2, 0x0D, W1, XMM, RVM, 8, BCST, F, F],
-    [VPERMB, EVEX, 1, 2, 0x8D, W0, XMM, RVM, 1, NO, VBMI, VBMI],
-    [VUNPCKLPS, VEX, 0, 1, 0x14, WIG, XMM, RVM, 4, NO, AVX, AVX],
-    [VUNPCKLPS, EVEX, 0, 1, 0x14, W0, XMM, RVM, 4, BCST, F, F],
-    [VPSHUFD, VEX, 1, 1, 0x70, WIG, XMM, RMI, 4, NO, AVX, AVX2],
-    [VPSHUFD, EVEX, 1, 1, 0x70, W0, XMM, RMI, 4, BCST, F, F],
-    [VPERM2F128, VEX, 1, 3, 0x06, W0, YMM, RVMI, 16, NO, AVX, AVX],
+const DIGIT: u8 = Move::BY_DIGIT;
+
+const LANE: u8 = Move::IN_LANE;
+
+const ANY: u8 = Move::ANYWHERE;
+
+const LOW: u8 = Move::LOW_HALVES;
+
+const LANES: u8 = Move::LANE_OR_ZERO;
+
+const IMM: u8 = Control::IMMEDIATE;
+
+const S1: u8 = Control::FIRST;
+
+const S2: u8 = Control::THIRD;
+
+// Mnemonic, encoding, pp, map, opcode, W, least width, operands, element bytes, broadcast, feature needed, feature needed at 256 bits,
+// kind of move, its bits, its group, its control.
+const ROWS: [[u8; 16]; 10] = [
+    [
+        VPERMILPD,
+        VEX,
+        1,
+        3,
+        0x05,
+        W0,
+        XMM,
+        RMI,
+        8,
+        NO,
+        AVX,
+        AVX,
+        DIGIT,
+        1,
+        XMM,
+        IMM,
+    ],
+    [
+        VPERMILPD,
+        EVEX,
+        1,
+        3,
+        0x05,
+        W1,
+        XMM,
+        RMI,
+        8,
+        BCST,
+        F,
+        F,
+        DIGIT,
+        1,
+        XMM,
+        IMM,
+    ],
+    [
+        VPERMILPD,
+        VEX,
+        1,
+        2,
+        0x0D,
+        W0,
+        XMM,
+        RVM,
+        8,
+        NO,
+        AVX,
+        AVX,
+        LANE,
+        1,
+        NO,
+        S2,
+    ],
+    [
+        VPERMILPD,
+        EVEX,
+        1,
+        2,
+        0x0D,
+        W1,
+        XMM,
+        RVM,
+        8,
+        BCST,
+        F,
+        F,
+        LANE,
+        1,
+        NO,
+        S2,
+    ],
+    [
+        VPERMB,
+        EVEX,
+        1,
+        2,
+        0x8D,
+        W0,
+        XMM,
+        RVM,
+        1,
+        NO,
+        VBMI,
+        VBMI,
+        ANY,
+        NO,
+        NO,
+        S1,
+    ],
+    [
+        VUNPCKLPS,
+        VEX,
+        0,
+        1,
+        0x14,
+        WIG,
+        XMM,
+        RVM,
+        4,
+        NO,
+        AVX,
+        AVX,
+        LOW,
+        NO,
+        NO,
+        NO,
+    ],
+    [
+        VUNPCKLPS,
+        EVEX,
+        0,
+        1,
+        0x14,
+        W0,
+        XMM,
+        RVM,
+        4,
+        BCST,
+        F,
+        F,
+        LOW,
+        NO,
+        NO,
+        NO,
+    ],
+    [
+        VPSHUFD,
+        VEX,
+        1,
+        1,
+        0x70,
+        WIG,
+        XMM,
+        RMI,
+        4,
+        NO,
+        AVX,
+        AVX2,
+        DIGIT,
+        2,
+        XMM,
+        IMM,
+    ],
+    [
+        VPSHUFD,
+        EVEX,
+        1,
+        1,
+        0x70,
+        W0,
+        XMM,
+        RMI,
+        4,
+        BCST,
+        F,
+        F,
+        DIGIT,
+        2,
+        XMM,
+        IMM,
+    ],
+    [
+        VPERM2F128,
+        VEX,
+        1,
+        3,
+        0x06,
+        W0,
+        YMM,
+        RVMI,
+        16,
+        NO,
+        AVX,
+        AVX,
+        LANES,
+        NO,
+        NO,
+        IMM,
+    ],
 ];
 
 fn row_at(i: usize) -> Row
@@ -115,7 +309,7 @@ fn row_at(i: usize) -> Row
     let t = ROWS[i];
     Row {
         mnemonic: t[0],
-        evex: t[1],
+        encoding: t[1],
         pp: t[2],
         map: t[3],
         opcode: t[4],
@@ -128,6 +322,10 @@ fn row_at(i: usize) -> Row
         broadcast: t[9],
         needs: t[10],
         needs256: t[11],
+        kind: t[12],
+        bits: t[13],
+        group: t[14],
+        control: t[15],
     }
 }
 
@@ -135,7 +333,7 @@ fn row_at(i: usize) -> Row
 fn matches_w(row: Row, key: Key) -> bool
     ensures { λ r. ⌜ r ≡ matchesW row key ⌝ }
 {
-    if key.evex == VEX {
+    if key.encoding == VEX {
         return true;
     }
     if row.w == WIG {
@@ -156,7 +354,7 @@ fn matches(row: Row, key: Key) -> bool
     if row.pp != key.pp {
         return false;
     }
-    if row.evex != key.evex {
+    if row.encoding != key.encoding {
         return false;
     }
     matches_w(row, key)

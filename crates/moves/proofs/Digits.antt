@@ -1,4 +1,4 @@
--- A digit of a control is one of its four picks, or a bit of one.
+-- A digit of two bits is one of the four picks.
 use Prim.Native.Nat.{ℕ, zero, suc, _*_, _/_, _%_, _^_, _<_}
 use mathlib.Core.Path.{_≡_, refl}
 use native.Mathlib.Omega.{arith}
@@ -12,15 +12,3 @@ pick-at c (suc zero) h = refl
 pick-at c (suc (suc zero)) h = refl
 pick-at c (suc (suc (suc zero))) h = refl
 pick-at c (suc (suc (suc (suc k)))) h = absurd (omega arith)
-
--- bit k is bit k % 2 of pick k / 2
-pub bit-at : (c k : ℕ) → k < 8 → getD (picks c) (k / 2) 0 / 2 ^ (k % 2) % 2 ≡ c / 2 ^ k % 2
-bit-at c zero h = omega arith
-bit-at c (suc zero) h = omega arith
-bit-at c (suc (suc zero)) h = omega arith
-bit-at c (suc (suc (suc zero))) h = omega arith
-bit-at c (suc (suc (suc (suc zero)))) h = omega arith
-bit-at c (suc (suc (suc (suc (suc zero))))) h = omega arith
-bit-at c (suc (suc (suc (suc (suc (suc zero)))))) h = omega arith
-bit-at c (suc (suc (suc (suc (suc (suc (suc zero))))))) h = omega arith
-bit-at c (suc (suc (suc (suc (suc (suc (suc (suc k)))))))) h = absurd (omega arith)

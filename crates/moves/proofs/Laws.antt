@@ -1,14 +1,15 @@
--- The laws of what a step moves: it changes its destination alone; it clears what is above the width; unmasked, the old destination does not matter;
--- mask bits past the last element do not matter; and it moves entries whatever they stand for.
+-- The laws of what a step moves: it changes its destination alone, and clears what is above the width; an element that the mask does not let
+-- through stays, or is cleared; unmasked, the old destination does not matter; mask bits past the last element do not matter; and it moves entries
+-- whatever they stand for.
 use Prim.Native.Nat.{ℕ, _+_, _-_, _*_, _/_, _%_, _^_, _<_, _≤_}
 use mathlib.Core.Path.{_≡_, refl, sym, _∙_, ap}
 use mathlib.Core.Bool.{Bool, true, false}
 use mathlib.Core.List.{List, map}
 use native.Mathlib.Omega.{arith}
-use native.Mathlib.Nat.{div-lt-iff-lt-mul, div-add-mod', div-le-self}
+use native.Mathlib.Nat.{div-add-mod, div-le-self, mul-div-le}
 use lib.Dec.{eqb, leb}
 use lib.ListN.{length, getD, take, drop, length-map, List·getD-map, List·getD-eq-default}
-use borrow.Author.Tests.{le-leb, eq-eqb, eqb-false}
+use borrow.Author.Tests.{le-leb, lt-leb, eq-eqb, eqb-false}
 use Rattle.seq.specs.Choice.{if_then_else_, both}
 use Rattle.seq.specs.Tabulate.{tabulate}
 use Rattle.seq.proofs.Choice.{of-either, both-true}
@@ -17,19 +18,19 @@ use Rattle.seq.proofs.Parts.{map-take, map-drop, part-same, every, at-every}
 use Rattle.isa.specs.Kinds.{registers, registerBytes, offsetOf}
 use Rattle.isa.specs.Operands.{widthBytes, elementBytes}
 use Rattle.isa.specs.declared.kinds.Reg.{Reg}
-use Rattle.decode.proofs.Ranges.{divides}
+use Rattle.isa.specs.declared.operands.Control.{Control}
+use Rattle.isa.specs.declared.operands.Move.{Move}
+use Rattle.isa.specs.declared.operands.Move.the-variants.{ByDigit, InLane, Anywhere, LowHalves, LaneOrZero}
+use Rattle.isa.proofs.Sizes.{element-divides, width-lanes, starts-above, starts-below}
 use Rattle.decode.specs.declared.instruction.First as FirstSource
 use Rattle.decode.specs.declared.instruction.Third as ThirdOperand
 use Rattle.decode.specs.declared.instruction.Instruction.{Instruction}
-use Rattle.moves.specs.Pick.{moveOf, immediateByte, digit, unpackLow, laneBy, laneOf, pickOf}
+use Rattle.moves.specs.Pick.{perLane, digit, lowHalves, laneOrZero, pickOf}
 use Rattle.moves.specs.Origin.{bitsOf, written, originOf}
-use Rattle.moves.specs.Moved.{held, registerAt, firstRegister, thirdPart, repeated, controlBy, elementStart, controlOf, entryOf, placed, moved}
-use Rattle.moves.specs.Mappable.{byImmediate, inRegister, mappable}
-use Rattle.moves.specs.declared.Move.{Move}
-use Rattle.moves.specs.declared.Move.the-variants.{LaneByImmediate, LaneByThird, AnyByFirst, UnpackLow, LaneOrZero}
+use Rattle.moves.specs.Moved.{held, registerAt, firstRegister, thirdPart, repeated, immediateByte, controlBy, controlAt, entryOf, placed, moved}
+use Rattle.moves.specs.Mappable.{inInstruction, inRegister, mappable}
 use Rattle.moves.specs.declared.Origin.{Origin}
-use Rattle.moves.specs.declared.Origin.the-variants.{First, Third, Zero, Kept}
-use Rattle.moves.proofs.Sizes.{some-bytes}
+use Rattle.moves.specs.declared.Origin.the-variants.{First, Third, Destination, Zero}
 use Rattle.moves.proofs.Placed.{placed-in, placed-out, placed-ext}
 
 -- ---- the destination alone, and zero above the width
@@ -56,16 +57,16 @@ module _ {A : Type 0} (byte : A → ℕ) (z : A) (x : Instruction) (masks : List
   above-width i h g b =
       moved-at (registerBytes * (x .destination .0 % registers) + i) b
       ∙ placed-in z file (x .destination .0 % registers) _ i g
-      ∙ rw (le-leb (widthBytes (x .width)) i h)
+      ∙ rw (le-leb (widthBytes (x .width)) (elementBytes (x .element) * (i / elementBytes (x .element))) (starts-above _ (element-divides (x .element)) _ (width-lanes (x .width)) i h))
 
 -- ---- entries move whatever they stand for
 
-held-map : {A B : Type 0} (h : A → B) (z : A) (f t : ℕ → A) (f′ t′ : ℕ → B) (k : A) (k′ : B) (o : Origin) → ((j : ℕ) → h (f j) ≡ f′ j) → ((j : ℕ) → h (t j) ≡ t′ j) → h k ≡ k′
-    → h (held z f t k o) ≡ held (h z) f′ t′ k′ o
-held-map h z f t f′ t′ k k′ (First j) p q e = p j
-held-map h z f t f′ t′ k k′ (Third j) p q e = q j
-held-map h z f t f′ t′ k k′ Zero p q e = refl
-held-map h z f t f′ t′ k k′ Kept p q e = e
+held-map : {A B : Type 0} (h : A → B) (z : A) (n : ℕ) (f t k : ℕ → A) (f′ t′ k′ : ℕ → B) (o : Origin) (b : ℕ) → ((i : ℕ) → h (f i) ≡ f′ i) → ((i : ℕ) → h (t i) ≡ t′ i) → ((i : ℕ) → h (k i) ≡ k′ i)
+    → h (held z n f t k o b) ≡ held (h z) n f′ t′ k′ o b
+held-map h z n f t k f′ t′ k′ (First p) b pf pt pk = pf (n * p + b)
+held-map h z n f t k f′ t′ k′ (Third p) b pf pt pk = pt (n * p + b)
+held-map h z n f t k f′ t′ k′ (Destination p) b pf pt pk = pk (n * p + b)
+held-map h z n f t k f′ t′ k′ Zero b pf pt pk = refl
 
 part-map : {A B : Type 0} (h : A → B) (t : ThirdOperand.Third) (memory file : List A) → map h (thirdPart t memory file) ≡ thirdPart t (map h memory) (map h file)
 part-map h (ThirdOperand.Third.Register r) memory file =
@@ -88,17 +89,22 @@ module _ {A B : Type 0} (h : A → B) (byte : A → ℕ) (byte′ : B → ℕ) (
   abbrev part : List A
   part = thirdPart (x .third) memory file
 
-  entry-map : (i : ℕ) → controlOf byte z x part file i ≡ controlOf byte′ (h z) x (map h part) (map h file) i
+  abbrev Same : ℕ → Type 0
+  Same j = controlAt byte z x part file j ≡ controlAt byte′ (h z) x (map h part) (map h file) j
+
+  entry-map : (i : ℕ) → Same (i / elementBytes (x .element))
       → h (entryOf byte z x (bitsOf masks (x .mask)) part file i) ≡ entryOf byte′ (h z) x (bitsOf masks (x .mask)) (map h part) (map h file) i
   unfolding entryOf
   entry-map i same =
-      held-map h z (registerAt z file (firstRegister (x .first))) (repeated z part) (registerAt (h z) (map h file) (firstRegister (x .first))) (repeated (h z) (map h part))
-      (registerAt z file (x .destination) i) (registerAt (h z) (map h file) (x .destination) i) (originOf x (bitsOf masks (x .mask)) (controlOf byte z x part file i) i)
-      (λ j. sym (List·getD-map h file (offsetOf (firstRegister (x .first)) j .0) z)) (λ j. repeated-map h z part j)
-      (sym (List·getD-map h file (offsetOf (x .destination) i .0) z))
-      ∙ ap (λ (c : ℕ). held (h z) (registerAt (h z) (map h file) (firstRegister (x .first))) (repeated (h z) (map h part)) (registerAt (h z) (map h file) (x .destination) i) (originOf x (bitsOf masks (x .mask)) c i)) same
+      let n = elementBytes (x .element) in
+      let f = firstRegister (x .first) in
+      let bits = bitsOf masks (x .mask) in
+      held-map h z n (registerAt z file f) (repeated z part) (registerAt z file (x .destination)) (registerAt (h z) (map h file) f) (repeated (h z) (map h part)) (registerAt (h z) (map h file) (x .destination))
+      (originOf x bits (controlAt byte z x part file (i / n)) (i / n)) (i % n)
+      (λ j. sym (List·getD-map h file (offsetOf f j .0) z)) (λ j. repeated-map h z part j) (λ j. sym (List·getD-map h file (offsetOf (x .destination) j .0) z))
+      ∙ ap (λ (c : ℕ). held (h z) n (registerAt (h z) (map h file) f) (repeated (h z) (map h part)) (registerAt (h z) (map h file) (x .destination)) (originOf x bits c (i / n)) (i % n)) same
 
-  pub moved-map : ((i : ℕ) → controlOf byte z x part file i ≡ controlOf byte′ (h z) x (map h part) (map h file) i)
+  pub moved-map : ((j : ℕ) → Same j)
       → map h (moved byte z x masks memory file) ≡ moved byte′ (h z) x masks (map h memory) (map h file)
   unfolding moved
   moved-map same =
@@ -107,16 +113,15 @@ module _ {A B : Type 0} (h : A → B) (byte : A → ℕ) (byte′ : B → ℕ) (
       let new′ = entryOf byte′ (h z) x (bitsOf masks (x .mask)) (map h part) (map h file) in
       map-tabulate h (length file) (placed z file d new)
       ∙ tabulate-ext (length file) (λ p. h (placed z file d new p)) (placed (h z) (map h file) d (λ i. h (new i))) (λ p b. placed-map h z file d new p)
-      ∙ placed-ext (h z) (map h file) d (λ i. h (new i)) (length file) new′ (λ i b. entry-map i (same i))
+      ∙ placed-ext (h z) (map h file) d (λ i. h (new i)) (length file) new′ (λ i b. entry-map i (same (i / elementBytes (x .element))))
       ∙ rw (length-map file h, part-map h (x .third) memory file)
 
--- a step that a byte map can say has its immediate for a control, and no memory
-control-fixed : (k : Move) → byImmediate k ≡ true → (m f t f′ t′ : ℕ) → controlBy k m f t ≡ controlBy k m f′ t′
-control-fixed LaneByImmediate e m f t f′ t′ = refl
-control-fixed LaneByThird e m f t f′ t′ = let z : _≡_ {A = ℕ} 0 1 = cc in absurd (omega arith)
-control-fixed AnyByFirst e m f t f′ t′ = let z : _≡_ {A = ℕ} 0 1 = cc in absurd (omega arith)
-control-fixed UnpackLow e m f t f′ t′ = refl
-control-fixed LaneOrZero e m f t f′ t′ = refl
+-- a step that a byte map can say has no control in a register, and no memory
+control-fixed : (k : Control) → inInstruction k ≡ true → (m f t f′ t′ : ℕ) → controlBy k m f t ≡ controlBy k m f′ t′
+control-fixed Control.Nowhere e m f t f′ t′ = refl
+control-fixed Control.Immediate e m f t f′ t′ = refl
+control-fixed Control.First e m f t f′ t′ = let z : _≡_ {A = ℕ} 0 1 = cc in absurd (omega arith)
+control-fixed Control.Third e m f t f′ t′ = let z : _≡_ {A = ℕ} 0 1 = cc in absurd (omega arith)
 
 no-memory : {A : Type 0} (t : ThirdOperand.Third) → inRegister t ≡ true → (memory memory′ file : List A) → thirdPart t memory file ≡ thirdPart t memory′ file
 no-memory (ThirdOperand.Third.Register r) e memory memory′ file = refl
@@ -127,72 +132,56 @@ pub mappable-moves : {A B : Type 0} (h : A → B) (byte : A → ℕ) (byte′ : 
     → mappable x ≡ true → map h (moved byte z x masks memory file) ≡ moved byte′ (h z) x masks memory′ (map h file)
 unfolding mappable
 mappable-moves h byte byte′ z x masks memory file memory′ e =
-    let m = both-true (inRegister (x .third)) (byImmediate (moveOf (x .mnemonic) (x .immediate))) e in
+    let m = both-true (inRegister (x .third)) (inInstruction (x .control)) e in
     moved-map h byte byte′ z x masks memory file
-    (unfold controlOf in λ i. control-fixed (moveOf (x .mnemonic) (x .immediate)) (m .1) (immediateByte (x .immediate)) _ _ _ _)
+    (unfold controlAt in λ j. control-fixed (x .control) (m .1) (immediateByte (x .immediate)) _ _ _ _)
     ∙ unfold moved in rw (no-memory (x .third) (m .0) (map h memory) memory′ (map h file))
 
 -- ---- mask bits past the last element do not matter
 
-element-within : (x : Instruction) (i : ℕ) → i < widthBytes (x .width) → i / elementBytes (x .element) < widthBytes (x .width) / elementBytes (x .element)
-element-within x i h =
-    let n = elementBytes (x .element) in
-    let v = widthBytes (x .width) in
-    div-lt-iff-lt-mul (some-bytes (x .element)) .1 (omega (arith, div-add-mod' v n, divides (x .width) (x .element)))
-
-origin-same : (x : Instruction) (bits bits′ c i : ℕ) → ((j : ℕ) → j < widthBytes (x .width) / elementBytes (x .element) → written bits j ≡ written bits′ j)
-    → originOf x bits c i ≡ originOf x bits′ c i
+origin-same : (x : Instruction) (bits bits′ c j : ℕ) → ((j : ℕ) → j < widthBytes (x .width) / elementBytes (x .element) → written bits j ≡ written bits′ j)
+    → originOf x bits c j ≡ originOf x bits′ c j
 unfolding originOf
-origin-same x bits bits′ c i same = by-lt i (widthBytes (x .width))
-    (λ h. rw (same (i / elementBytes (x .element)) (element-within x i h)))
-    (λ h. rw (le-leb (widthBytes (x .width)) i h))
+origin-same x bits bits′ c j same = by-lt (elementBytes (x .element) * j) (widthBytes (x .width))
+    (λ h. rw (same j (starts-below _ (element-divides (x .element)) _ (width-lanes (x .width)) j h)))
+    (λ h. rw (le-leb (widthBytes (x .width)) (elementBytes (x .element) * j) h))
 
 pub masks-past : {A : Type 0} (byte : A → ℕ) (z : A) (x : Instruction) (masks masks′ : List ℕ) (memory file : List A)
     → ((j : ℕ) → j < widthBytes (x .width) / elementBytes (x .element) → written (bitsOf masks (x .mask)) j ≡ written (bitsOf masks′ (x .mask)) j)
     → moved byte z x masks memory file ≡ moved byte z x masks′ memory file
 unfolding moved entryOf
 masks-past byte z x masks masks′ memory file same =
+    let n = elementBytes (x .element) in
     placed-ext z file (x .destination .0 % registers) _ (length file) _
-    (λ i b. ap (held z (registerAt z file (firstRegister (x .first))) (repeated z (thirdPart (x .third) memory file)) (registerAt z file (x .destination) i))
-    (origin-same x (bitsOf masks (x .mask)) (bitsOf masks′ (x .mask)) _ i same))
+    (λ i b. ap (λ (o : Origin). held z n (registerAt z file (firstRegister (x .first))) (repeated z (thirdPart (x .third) memory file)) (registerAt z file (x .destination)) o (i % n))
+    (origin-same x (bitsOf masks (x .mask)) (bitsOf masks′ (x .mask)) _ (i / n) same))
 
 -- ---- with mask 0, which every VEX form has, the old destination does not matter unless it is a source
 
-abbrev NotKept : Origin → Type 0
-NotKept o = o ≡ Kept → ⊥
+abbrev FromSources : Origin → Type 0
+FromSources (First p) = Unit
+FromSources (Third p) = Unit
+FromSources (Destination p) = ⊥
+FromSources Zero = Unit
 
-first-not-kept : (j : ℕ) → NotKept (First j)
-first-not-kept j e = let z : _≡_ {A = ℕ} 0 1 = cc in omega arith
-
-third-not-kept : (j : ℕ) → NotKept (Third j)
-third-not-kept j e = let z : _≡_ {A = ℕ} 0 1 = cc in omega arith
-
-zero-not-kept : NotKept Zero
-zero-not-kept e = let z : _≡_ {A = ℕ} 0 1 = cc in omega arith
-
-lane-not-kept : (n s i : ℕ) → NotKept (laneBy n s i)
-unfolding laneBy
-lane-not-kept n s i =
-    of-either NotKept (eqb (s / 8 % 2) 1) _ _ zero-not-kept (of-either NotKept (eqb (s / 2 % 2) 0) _ _ (first-not-kept _) (third-not-kept _))
-
-pick-not-kept : (k : Move) (n v c i : ℕ) → NotKept (pickOf k n v c i)
-unfolding pickOf unpackLow laneOf
-pick-not-kept LaneByImmediate n v c i = third-not-kept _
-pick-not-kept LaneByThird n v c i = first-not-kept _
-pick-not-kept AnyByFirst n v c i = third-not-kept _
-pick-not-kept UnpackLow n v c i = of-either NotKept (eqb (i % 16 / n % 2) 0) _ _ (first-not-kept _) (third-not-kept _)
-pick-not-kept LaneOrZero n v c i = of-either NotKept (eqb (i / n) 0) _ _ (lane-not-kept n (c % 16) i) (lane-not-kept n (c / 16) i)
+pick-from-sources : (m : Move) (n v c j : ℕ) → FromSources (pickOf m n v c j)
+unfolding pickOf lowHalves laneOrZero
+pick-from-sources (ByDigit digits group) n v c j = tt
+pick-from-sources (InLane bit) n v c j = tt
+pick-from-sources Anywhere n v c j = tt
+pick-from-sources LowHalves n v c j = of-either FromSources (eqb (j % perLane n % 2) 0) _ _ tt tt
+pick-from-sources LaneOrZero n v c j =
+    of-either FromSources (eqb (digit 4 c j / 8 % 2) 1) _ _ tt (of-either FromSources (eqb (digit 4 c j / 2 % 2) 0) _ _ tt tt)
 
 -- mask 0 lets every element through
 all-written : (j : ℕ) → j < 64 → written (2 ^ 64 - 1) j ≡ true
 unfolding written
-all-written j h = at-every 64 (written (2 ^ 64 - 1)) tt j h
+all-written j h = at-every 64 (written (2 ^ 64 - 1)) refl j h
 
-origin-not-kept : (x : Instruction) (c i : ℕ) → i < 64 → NotKept (originOf x (2 ^ 64 - 1) c i)
+origin-from-sources : (x : Instruction) (c j : ℕ) → j < 64 → FromSources (originOf x (2 ^ 64 - 1) c j)
 unfolding originOf
-origin-not-kept x c i h =
-    rw (all-written (i / elementBytes (x .element)) (omega (arith, div-le-self i (elementBytes (x .element)))))
-    (of-either NotKept (leb (widthBytes (x .width)) i) _ _ zero-not-kept (pick-not-kept _ _ _ c i))
+origin-from-sources x c j h =
+    rw (all-written j h) (of-either FromSources (leb (widthBytes (x .width)) (elementBytes (x .element) * j)) _ _ tt (pick-from-sources _ _ _ c j))
 
 -- the third operand is not register d
 abbrev pub NotThird : ℕ → ThirdOperand.Third → Type 0
@@ -211,11 +200,11 @@ module _ {A : Type 0} (byte : A → ℕ) (z : A) (x : Instruction) (masks : List
   parts-same (ThirdOperand.Third.Register r) h = part-same z f g (offsetOf r 0 .0) registerBytes e (λ i b. agree (offsetOf r 0 .0 + i) (λ q. h (omega arith)))
   parts-same (ThirdOperand.Third.Memory bytes) h = refl
 
-  held-same : (first third : ℕ → A) (first′ : ℕ → A) (k k′ : A) (o : Origin) → NotKept o → ((j : ℕ) → first j ≡ first′ j) → held z first third k o ≡ held z first′ third k′ o
-  held-same first third first′ k k′ (First j) h p = p j
-  held-same first third first′ k k′ (Third j) h p = refl
-  held-same first third first′ k k′ Zero h p = refl
-  held-same first third first′ k k′ Kept h p = absurd (h refl)
+  held-same : (n : ℕ) (first third first′ k k′ : ℕ → A) (o : Origin) (b : ℕ) → FromSources o → ((i : ℕ) → first i ≡ first′ i) → held z n first third k o b ≡ held z n first′ third k′ o b
+  held-same n first third first′ k k′ (First p) b h q = q (n * p + b)
+  held-same n first third first′ k k′ (Third p) b h q = refl
+  held-same n first third first′ k k′ (Destination p) b h q = absurd h
+  held-same n first third first′ k k′ Zero b h q = refl
 
   module _ (m : x .mask .0 ≡ 0) (nf : firstRegister (x .first) .0 % registers ≡ d → ⊥) (nt : NotThird d (x .third)) where
     abbrev new : List A → ℕ → A
@@ -226,12 +215,15 @@ module _ {A : Type 0} (byte : A → ℕ) (z : A) (x : Instruction) (masks : List
     all-bits = rw (eq-eqb (x .mask .0) 0 m)
 
     new-same : (i : ℕ) → i < 64 → new f i ≡ new g i
-    unfolding entryOf controlOf
+    unfolding entryOf controlAt
     new-same i b =
-        let start = elementStart x i in
-        rw (parts-same (x .third) nt, all-bits, register-same (firstRegister (x .first)) nf start)
-        (held-same (registerAt z f (firstRegister (x .first))) (repeated z (thirdPart (x .third) memory g)) (registerAt z g (firstRegister (x .first))) _ _ _
-        (origin-not-kept x _ i b) (register-same (firstRegister (x .first)) nf))
+        let n = elementBytes (x .element) in
+        let r = firstRegister (x .first) in
+        let t = repeated z (thirdPart (x .third) memory g) in
+        let c = controlBy (x .control) (immediateByte (x .immediate)) (byte (registerAt z g r (n * (i / n)))) (byte (t (n * (i / n)))) in
+        rw (parts-same (x .third) nt, all-bits, register-same r nf (n * (i / n)))
+        (held-same n (registerAt z f r) t (registerAt z g r) (registerAt z f (x .destination)) (registerAt z g (x .destination)) (originOf x (2 ^ 64 - 1) c (i / n)) (i % n)
+        (origin-from-sources x c (i / n) (omega (arith, div-le-self i n))) (register-same r nf))
 
     placed-same : (p : ℕ) → placed z f d (new f) p ≡ placed z g d (new g) p
     unfolding placed
@@ -245,15 +237,32 @@ module _ {A : Type 0} (byte : A → ℕ) (z : A) (x : Instruction) (masks : List
     unfolding moved
     unmasked = tabulate-ext (length f) (placed z f d (new f)) (placed z g d (new g)) (λ p b. placed-same p) ∙ rw e
 
--- ---- the element's size filled in: an immediate's bit j chooses quadword j, its bits 2j+1:2j doubleword j, and bit 1 of a control chooses a quadword
+-- ---- an element that the mask does not let through: with z it is cleared, else it stays
 
-pub quadword-digit : (c j : ℕ) → digit 8 c j ≡ c / 2 ^ (j % 8) % 2
-unfolding digit
-quadword-digit c j = let e : 1 * (j % 8) ≡ j % 8 = omega arith in rw e
+module _ {A : Type 0} (byte : A → ℕ) (z : A) (x : Instruction) (masks : List ℕ) (memory file : List A) (i : ℕ) (below : i < widthBytes (x .width))
+    (fits : registerBytes * (x .destination .0 % registers) + i < length file)
+    (off : written (bitsOf masks (x .mask)) (i / elementBytes (x .element)) ≡ false) where
+  abbrev at : ℕ
+  at = registerBytes * (x .destination .0 % registers) + i
 
-pub doubleword-digit : (c j : ℕ) → digit 4 c j ≡ c / 2 ^ (2 * (j % 4)) % 4
-unfolding digit
-doubleword-digit c j = refl
+  masked-entry : (zeroing : Bool) → x .zeroing ≡ zeroing → getD (moved byte z x masks memory file) at z ≡ (if zeroing then z else getD file at z)
+  unfolding entryOf originOf
+  masked-entry zeroing q =
+      let n = elementBytes (x .element) in
+      let w = width-lanes (x .width) in
+      let start : n * (i / n) < widthBytes (x .width) = omega (arith, mul-div-le i n) in
+      moved-at byte z x masks memory file at fits
+      ∙ placed-in z file (x .destination .0 % registers) _ i (omega (arith, w .most))
+      ∙ rw (lt-leb (widthBytes (x .width)) (n * (i / n)) start, off, q) (by zeroing)
+    where
+      by : (t : Bool) → held z (elementBytes (x .element)) (registerAt z file (firstRegister (x .first))) (repeated z (thirdPart (x .third) memory file)) (registerAt z file (x .destination)) (if t then Zero else Destination (i / elementBytes (x .element))) (i % elementBytes (x .element)) ≡ (if t then z else getD file at z)
+      by true = refl
+      by false =
+          let w = width-lanes (x .width) in
+          ap (λ (p : ℕ). getD file p z) (omega (arith, div-add-mod i (elementBytes (x .element)), w .most))
 
-pub quadword-control : (c : ℕ) → 4 * (c % 4) / 8 ≡ c / 2 % 2
-quadword-control c = omega arith
+  pub kept-under-merging : x .zeroing ≡ false → getD (moved byte z x masks memory file) at z ≡ getD file at z
+  kept-under-merging = masked-entry false
+
+  pub cleared-under-zeroing : x .zeroing ≡ true → getD (moved byte z x masks memory file) at z ≡ z
+  cleared-under-zeroing = masked-entry true

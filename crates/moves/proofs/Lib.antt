@@ -1,7 +1,5 @@
 -- Lemmas that the proofs of the moves hand to `search`, and the laws of the file after a step, which other crates cite.
-mod Sizes
 mod Digits
 pub mod Rules
 pub mod Placed
 pub mod Laws
-pub mod Shift

@@ -1,85 +1,102 @@
 -- What each function on moves gives, by what its callees gave: a rule for each way it can return.
-use Prim.Native.Nat.{ℕ, _-_, _*_, _/_, _%_, _^_, _<_, _≤_}
+use Prim.Native.Nat.{ℕ, _+_, _-_, _*_, _/_, _%_, _^_, _<_, _≤_}
 use mathlib.Core.Path.{_≡_, _∙_, sym}
 use mathlib.Core.Bool.{Bool, true, false}
 use mathlib.Core.List.{List}
+use native.Mathlib.Nat.{div-eq-of-lt, lt-of-lt-of-le, mul-le-mul}
 use native.Mathlib.Omega.{arith}
 use lib.ListN.{length, getD, List·getD-eq-default}
+use lib.Pow.{pow-mono}
 use borrow.Author.Tests.{eq-eqb, ne-eqb, le-leb, lt-leb}
 use Rattle.isa.specs.Kinds.{regOf}
+use Rattle.isa.specs.Operands.{widthBytes, elementBytes, digitBits}
 use Rattle.isa.specs.declared.kinds.Reg.{Reg}
-use Rattle.decode.specs.declared.instruction.First as FirstSource
-use Rattle.moves.specs.Moved.{firstRegister}
-use Rattle.isa.specs.Operands.{widthBytes, elementBytes}
 use Rattle.isa.specs.declared.kinds.Mask.{Mask}
+use Rattle.isa.specs.declared.operands.Digits.{Digits}
+use Rattle.isa.specs.declared.operands.Digits.the-variants.{One, Two, Four}
 use Rattle.isa.specs.declared.operands.Width.{Width}
 use Rattle.isa.specs.declared.operands.Element.{Element}
-use Rattle.isa.specs.declared.operands.Element.the-variants.{Byte, Doubleword, Quadword, Lane}
+use Rattle.isa.specs.declared.operands.Move.{Move}
+use Rattle.isa.specs.declared.operands.Move.the-variants.{ByDigit, InLane, Anywhere, LowHalves, LaneOrZero}
+use Rattle.isa.proofs.Sizes.{element-divides, most-bytes}
+use Rattle.decode.specs.declared.instruction.First as FirstSource
 use Rattle.decode.specs.declared.instruction.Instruction.{Instruction}
-use Rattle.moves.specs.Pick.{moveOf, picks, digit, placeIn, inLane, unpackLow, laneOf, pickOf}
+use Rattle.moves.specs.Pick.{perLane, groupStart, picks, digit, lowHalves, laneOrZero, pickOf}
 use Rattle.moves.specs.Origin.{bitsOf, written, originOf, maskedOff}
-use Rattle.moves.specs.declared.Move.{Move}
-use Rattle.moves.specs.declared.Move.the-variants.{LaneByImmediate, LaneByThird, AnyByFirst, UnpackLow, LaneOrZero}
+use Rattle.moves.specs.Moved.{firstRegister}
 use Rattle.moves.specs.declared.Origin.{Origin}
 use Rattle.moves.specs.declared.Origin.the-variants.{First, Third, Zero}
-use Rattle.moves.proofs.Digits.{pick-at, bit-at}
+use Rattle.moves.proofs.Digits.{pick-at}
 
-module _ (e : Element) (c j : ℕ) where
-  pub digit-byte : e ≡ Byte → c < 2 ^ 8 → c ≡ digit (elementBytes e) c j
+pub first-absent : (f : FirstSource.First) (r : Reg) → f ≡ FirstSource.First.Absent → r ≡ regOf 0 0 → r ≡ firstRegister f
+first-absent f r p q = q ∙ rw p
+
+-- an element has at most 16 bytes
+pub start-most : (e : Element) (n p : ℕ) → n ≡ elementBytes e → p < 2 ^ 16 → n * p ≤ 1048560
+start-most e n p q h = rw q (mul-le-mul {n₂ = 16} {m₂ = 65535} (most-bytes _ (element-divides e)) (omega arith))
+
+-- ---- digits
+
+module _ (d : Digits) (c j : ℕ) where
+  pub digit-one : d ≡ One → c / 2 ^ (j % 8) % 2 ≡ digit (digitBits d) c j
   unfolding digit
-  digit-byte q h =
-      let z : j % 1 ≡ 0 = omega arith in
-      rw (q, z) (omega arith)
+  digit-one q = let e : 1 * (j % 8) ≡ j % 8 = omega arith in rw (q, e)
 
-  pub digit-doubleword : e ≡ Doubleword → (four : List ℕ) → four ≡ picks c → (k : ℕ) → k ≡ getD four (j % 4) 0 → k ≡ digit (elementBytes e) c j
+  pub digit-two : d ≡ Two → (four : List ℕ) → four ≡ picks c → (k : ℕ) → k ≡ getD four (j % 4) 0 → k ≡ digit (digitBits d) c j
   unfolding digit
-  digit-doubleword q four p k h = h ∙ rw (q, p) (pick-at c (j % 4) (omega arith))
+  digit-two q four p k h = h ∙ rw (q, p) (pick-at c (j % 4) (omega arith))
 
-  pub digit-quadword : e ≡ Quadword → (four : List ℕ) → four ≡ picks c → (k : ℕ) → k ≡ getD four (j / 2 % 4) 0 → k / 2 ^ (j % 2) % 2 ≡ digit (elementBytes e) c j
+  pub digit-four : d ≡ Four → c / 2 ^ (4 * (j % 2)) % 16 ≡ digit (digitBits d) c j
   unfolding digit
-  digit-quadword q four p k h =
-      let a : j / 2 % 4 ≡ j % 8 / 2 = omega arith in
-      let b : j % 2 ≡ j % 8 % 2 = omega arith in
-      let d : 1 * (j % 8) ≡ j % 8 = omega arith in
-      rw (h, q, p, a, b, d) (bit-at c (j % 8) (omega arith))
+  digit-four q = rw q
 
-  pub digit-lane : e ≡ Lane → 0 ≡ digit (elementBytes e) c j
-  unfolding digit
-  digit-lane q = rw q (omega arith)
+-- a byte has no bit from the eighth on
+pub no-bits-left : (c bit : ℕ) → c < 2 ^ 8 → 8 ≤ bit → 0 ≡ c / 2 ^ bit
+no-bits-left c bit h g = sym (div-eq-of-lt (lt-of-lt-of-le h (pow-mono g)))
 
-module _ (e : Element) (n c i r : ℕ) (pn : n ≡ elementBytes e) where
-  pub by-third : r ≡ inLane n (4 * (c % 4) / n) i → r ≡ inLane (elementBytes e) (4 * (c % 4) / elementBytes e) i
-  by-third h = rw (← pn) h
+-- ---- picks
 
-  pub by-immediate : (d : ℕ) → d ≡ digit (elementBytes e) c (i / n) → r ≡ inLane n d i → r ≡ inLane (elementBytes e) (digit (elementBytes e) c (i / elementBytes e)) i
-  by-immediate d p h = h ∙ rw (p, pn)
+module _ (e g j : ℕ) (p : g ≡ e) (s : ℕ) (q : s ≡ groupStart g j) where
+  pub in-group : (d f : ℕ) → d ≡ f → s + d ≡ groupStart e j + f
+  in-group d f h = rw (q, p, h)
 
-  pub by-first : (w : Width) (k : ℕ) → k ≡ widthBytes w / elementBytes e → r ≡ placeIn n (c % k) i → Third r ≡ pickOf AnyByFirst (elementBytes e) (widthBytes w) c i
+  pub in-group-by : (c d r : ℕ) → d ≡ c → r ≡ d % g → s + r ≡ groupStart e j + c % e
+  in-group-by c d r h t = rw (q, t, p, h)
+
+  module _ (k : ℕ) (t : k ≡ j % g) where
+    pub first-half : k % 2 ≡ 0 → First (s + k / 2) ≡ lowHalves e j
+    unfolding lowHalves
+    first-half h = rw (q, ← p, ← t, eq-eqb (k % 2) 0 h)
+
+    pub third-half : (k % 2 ≡ 0 → ⊥) → Third (s + k / 2) ≡ lowHalves e j
+    unfolding lowHalves
+    third-half h = rw (q, ← p, ← t, ne-eqb (k % 2) 0 h)
+
+pub any-element : (e g c r : ℕ) → g ≡ e → r ≡ c % g → r ≡ c % e
+any-element e g c r p q = q ∙ rw p
+
+module _ (moves : Move) (n v c j : ℕ) where
+  pub picks-digit : (d : Digits) (g : Width) → moves ≡ ByDigit d g → (r : ℕ) → r ≡ groupStart (widthBytes g / n) j + digit (digitBits d) c j → Third r ≡ pickOf moves n v c j
   unfolding pickOf
-  by-first w k p h = rw (h, p, pn)
+  picks-digit d g q r h = rw (q, h)
 
-module _ (kind : Move) (n v c i : ℕ) where
-  pub picks-immediate : kind ≡ LaneByImmediate → (r : ℕ) → r ≡ inLane n (digit n c (i / n)) i → Third r ≡ pickOf kind n v c i
+  pub picks-in-lane : (bit : ℕ) → moves ≡ InLane bit → (r : ℕ) → r ≡ groupStart (perLane n) j + c / 2 ^ bit % perLane n → First r ≡ pickOf moves n v c j
   unfolding pickOf
-  picks-immediate q r h = rw (q, h)
+  picks-in-lane bit q r h = rw (q, h)
 
-  pub picks-third : kind ≡ LaneByThird → (r : ℕ) → r ≡ inLane n (4 * (c % 4) / n) i → First r ≡ pickOf kind n v c i
+  pub picks-anywhere : moves ≡ Anywhere → (r : ℕ) → r ≡ c % (v / n) → Third r ≡ pickOf moves n v c j
   unfolding pickOf
-  picks-third q r h = rw (q, h)
+  picks-anywhere q r h = rw (q, h)
 
-  pub picks-first : kind ≡ AnyByFirst → (o : Origin) → o ≡ pickOf AnyByFirst n v c i → o ≡ pickOf kind n v c i
-  picks-first q o h = rw q h
-
-  pub picks-unpack : kind ≡ UnpackLow → (m : ℕ) → m ≡ n → (o : Origin) → o ≡ unpackLow m i → o ≡ pickOf kind n v c i
+  pub picks-halves : moves ≡ LowHalves → (o : Origin) → o ≡ lowHalves (perLane n) j → o ≡ pickOf moves n v c j
   unfolding pickOf
-  picks-unpack q m p o h = h ∙ rw (q, p)
+  picks-halves q o h = h ∙ rw q
 
-  pub picks-lane : kind ≡ LaneOrZero → (m : ℕ) → m ≡ n → (o : Origin) → o ≡ laneOf m c i → o ≡ pickOf kind n v c i
+  pub picks-lane : moves ≡ LaneOrZero → (s : ℕ) → s ≡ digit 4 c j → (o : Origin) → o ≡ laneOrZero s → o ≡ pickOf moves n v c j
   unfolding pickOf
-  picks-lane q m p o h = h ∙ rw (q, p)
+  picks-lane q s p o h = h ∙ rw (q, p)
 
-pub picked-by : (kind move : Move) (n v c d i : ℕ) (r : Origin) → kind ≡ move → c ≡ d → r ≡ pickOf kind n v c i → r ≡ pickOf move n v d i
-picked-by kind move n v c d i r p q e = e ∙ rw (p, q)
+-- ---- masks
 
 module _ (masks : List ℕ) (k : Mask) (m : ℕ) (pm : m ≡ k .0) where
   pub all-bits : m ≡ 0 → 2 ^ 64 - 1 ≡ bitsOf masks k
@@ -93,19 +110,16 @@ module _ (masks : List ℕ) (k : Mask) (m : ℕ) (pm : m ≡ k .0) where
   pub no-bits : (m ≡ 0 → ⊥) → length masks ≤ m → 0 ≡ bitsOf masks k
   no-bits h g = sym (List·getD-eq-default masks 0 g) ∙ its-bits h
 
-module _ (x : Instruction) (bits c i v n : ℕ) (pv : v ≡ widthBytes (x .width)) (pn : n ≡ elementBytes (x .element)) where
-  pub above : v ≤ i → Zero ≡ originOf x bits c i
+module _ (x : Instruction) (bits c j v s : ℕ) (pv : v ≡ widthBytes (x .width)) (ps : s ≡ elementBytes (x .element) * j) where
+  pub above : v ≤ s → Zero ≡ originOf x bits c j
   unfolding originOf
-  above h = rw (← pv, le-leb v i h)
+  above h = rw (← pv, ← ps, le-leb v s h)
 
-  pub through : i < v → (t : Bool) → t ≡ written bits (i / n) → t ≡ true → (k : Move) → k ≡ moveOf (x .mnemonic) (x .immediate)
-      → (o : Origin) → o ≡ pickOf k (elementBytes (x .element)) (widthBytes (x .width)) c i → o ≡ originOf x bits c i
+  pub through : s < v → (t : Bool) → t ≡ written bits j → t ≡ true → (o : Origin)
+      → o ≡ pickOf (x .moves) (elementBytes (x .element)) (widthBytes (x .width)) c j → o ≡ originOf x bits c j
   unfolding originOf
-  through h t p q k g o e = e ∙ rw (g, ← pv, lt-leb v i h, ← pn, sym p ∙ q)
+  through h t p q o e = e ∙ rw (← pv, ← ps, lt-leb v s h, sym p ∙ q)
 
-  pub not-through : i < v → (t : Bool) → t ≡ written bits (i / n) → t ≡ false → (o : Origin) → o ≡ maskedOff (x .zeroing) → o ≡ originOf x bits c i
+  pub not-through : s < v → (t : Bool) → t ≡ written bits j → t ≡ false → (o : Origin) → o ≡ maskedOff (x .zeroing) j → o ≡ originOf x bits c j
   unfolding originOf
-  not-through h t p q o e = e ∙ rw (← pv, lt-leb v i h, ← pn, sym p ∙ q)
-
-pub first-absent : (f : FirstSource.First) (r : Reg) → f ≡ FirstSource.First.Absent → r ≡ regOf 0 0 → r ≡ firstRegister f
-first-absent f r p q = q ∙ rw p
+  not-through h t p q o e = e ∙ rw (← pv, ← ps, lt-leb v s h, sym p ∙ q)

@@ -1,4 +1,4 @@
--- Document 01, "What a step moves".
+-- Section 4 of the rules, "Moves", and rule 7.3.
 pub mod Pick
 pub mod Origin
 pub mod Moved

@@ -1,7 +1,6 @@
--- Document 01, "What a step moves": all that a register file holds after a step. The entries of the file are bytes, whose zero is 0; the
--- same is said here of entries of any type A with a zero z of their own, since a byte map's entries move as bytes do. `byte` reads an entry as
--- a control.
-use Prim.Native.Nat.{ℕ, _-_, _/_, _%_}
+-- Rules 4.1 to 4.3 and 4.16: all that a register file holds after a step. The entries of the file are bytes, whose zero is 0; the same is said
+-- here of entries of any type A with a zero z of their own, since a byte map's entries move as bytes do. `byte` reads an entry as a control.
+use Prim.Native.Nat.{ℕ, _+_, _*_, _/_, _%_}
 use mathlib.Core.List.{List}
 use lib.Dec.{eqb}
 use lib.ListN.{length, getD, take, drop}
@@ -10,22 +9,14 @@ use Rattle.seq.specs.Tabulate.{tabulate}
 use Rattle.isa.specs.Kinds.{registers, registerBytes, offsetOf}
 use Rattle.isa.specs.Operands.{elementBytes}
 use Rattle.isa.specs.declared.kinds.Reg.{Reg}
+use Rattle.isa.specs.declared.operands.Control.{Control}
 use Rattle.decode.specs.declared.instruction.First as FirstSource
 use Rattle.decode.specs.declared.instruction.Third as ThirdOperand
+use Rattle.decode.specs.declared.instruction.Immediate.{Immediate}
 use Rattle.decode.specs.declared.instruction.Instruction.{Instruction}
-use Rattle.moves.specs.Pick.{moveOf, immediateByte}
 use Rattle.moves.specs.Origin.{bitsOf, originOf}
-use Rattle.moves.specs.declared.Move.{Move}
-use Rattle.moves.specs.declared.Move.the-variants.{LaneByImmediate, LaneByThird, AnyByFirst, UnpackLow, LaneOrZero}
 use Rattle.moves.specs.declared.Origin.{Origin}
-use Rattle.moves.specs.declared.Origin.the-variants.{First, Third, Zero, Kept}
-
--- what an origin holds
-abbrev pub held : {A : Type 0} → A → (ℕ → A) → (ℕ → A) → A → Origin → A
-held z first third kept (First j) = first j
-held z first third kept (Third j) = third j
-held z first third kept Zero = z
-held z first third kept Kept = kept
+use Rattle.moves.specs.declared.Origin.the-variants.{First, Third, Destination, Zero}
 
 -- byte i of a register
 abbrev pub registerAt : {A : Type 0} → A → List A → Reg → ℕ → A
@@ -41,33 +32,40 @@ abbrev pub thirdPart : {A : Type 0} → ThirdOperand.Third → List A → List A
 thirdPart (ThirdOperand.Third.Register r) memory file = take registerBytes (drop (offsetOf r 0 .0) file)
 thirdPart (ThirdOperand.Third.Memory bytes) memory file = memory
 
--- byte j of it; a broadcast element is repeated
+-- byte i of it; a broadcast element is repeated
 abbrev pub repeated : {A : Type 0} → A → List A → ℕ → A
-repeated z part j = getD part (j % length part) z
+repeated z part i = getD part (i % length part) z
 
--- the control: the immediate, or a byte of the first source or of the third operand
-abbrev pub controlBy : Move → ℕ → ℕ → ℕ → ℕ
-controlBy LaneByImmediate immediate first third = immediate
-controlBy LaneByThird immediate first third = third
-controlBy AnyByFirst immediate first third = first
-controlBy UnpackLow immediate first third = immediate
-controlBy LaneOrZero immediate first third = immediate
+-- rule 4.5: where the control stands. In a register it is byte 0 of element j
+abbrev pub immediateByte : Immediate → ℕ
+immediateByte (Immediate.Byte b) = b
+immediateByte Immediate.Absent = 0
 
--- byte 0 of an element, for the element that has byte i
-abbrev pub elementStart : Instruction → ℕ → ℕ
-elementStart x i = i - i % elementBytes (x .element)
+abbrev pub controlBy : Control → ℕ → ℕ → ℕ → ℕ
+controlBy Control.Nowhere immediate first third = 0
+controlBy Control.Immediate immediate first third = immediate
+controlBy Control.First immediate first third = first
+controlBy Control.Third immediate first third = third
 
-unfoldable pub controlOf : {A : Type 0} → (A → ℕ) → A → Instruction → List A → List A → ℕ → ℕ
-controlOf byte z x part file i =
-    controlBy (moveOf (x .mnemonic) (x .immediate)) (immediateByte (x .immediate))
-    (byte (registerAt z file (firstRegister (x .first)) (elementStart x i)))
-    (byte (repeated z part (elementStart x i)))
+unfoldable pub controlAt : {A : Type 0} → (A → ℕ) → A → Instruction → List A → List A → ℕ → ℕ
+controlAt byte z x part file j =
+    controlBy (x .control) (immediateByte (x .immediate))
+    (byte (registerAt z file (firstRegister (x .first)) (elementBytes (x .element) * j)))
+    (byte (repeated z part (elementBytes (x .element) * j)))
 
--- byte i of the destination after the step
+-- byte b of what an element of n bytes comes from
+abbrev pub held : {A : Type 0} → A → ℕ → (ℕ → A) → (ℕ → A) → (ℕ → A) → Origin → ℕ → A
+held z n first third old (First p) b = first (n * p + b)
+held z n first third old (Third p) b = third (n * p + b)
+held z n first third old (Destination p) b = old (n * p + b)
+held z n first third old Zero b = z
+
+-- byte i of the destination after the step: byte i % n of what element i / n comes from
 unfoldable pub entryOf : {A : Type 0} → (A → ℕ) → A → Instruction → ℕ → List A → List A → ℕ → A
 entryOf byte z x bits part file i =
-    held z (registerAt z file (firstRegister (x .first))) (repeated z part) (registerAt z file (x .destination) i)
-    (originOf x bits (controlOf byte z x part file i) i)
+    let n = elementBytes (x .element) in
+    held z n (registerAt z file (firstRegister (x .first))) (repeated z part) (registerAt z file (x .destination))
+    (originOf x bits (controlAt byte z x part file (i / n)) (i / n)) (i % n)
 
 -- a file with new bytes in register r, and every other register as it was
 unfoldable pub placed : {A : Type 0} → A → List A → ℕ → (ℕ → A) → ℕ → A

@@ -1,5 +1,5 @@
--- Document 01, "What a step moves": masks and width. Where byte i of the destination comes from.
-use Prim.Native.Nat.{ℕ, _-_, _/_, _%_, _^_}
+-- Rules 4.12 to 4.15: masks and width. Where element j of the destination comes from.
+use Prim.Native.Nat.{ℕ, _-_, _*_, _/_, _%_, _^_}
 use mathlib.Core.Bool.{Bool}
 use mathlib.Core.List.{List}
 use lib.Dec.{eqb, leb}
@@ -8,9 +8,9 @@ use Rattle.seq.specs.Choice.{if_then_else_}
 use Rattle.isa.specs.Operands.{widthBytes, elementBytes}
 use Rattle.isa.specs.declared.kinds.Mask.{Mask}
 use Rattle.decode.specs.declared.instruction.Instruction.{Instruction}
-use Rattle.moves.specs.Pick.{moveOf, pickOf}
+use Rattle.moves.specs.Pick.{pickOf}
 use Rattle.moves.specs.declared.Origin.{Origin}
-use Rattle.moves.specs.declared.Origin.the-variants.{Zero, Kept}
+use Rattle.moves.specs.declared.Origin.the-variants.{Destination, Zero}
 
 -- mask 0, which every VEX form has too, lets all elements through; any other goes by its bits
 unfoldable pub bitsOf : List ℕ → Mask → ℕ
@@ -20,14 +20,13 @@ bitsOf masks k = if eqb (k .0) 0 then 2 ^ 64 - 1 else getD masks (k .0) 0
 unfoldable pub written : ℕ → ℕ → Bool
 written bits j = eqb (bits / 2 ^ j % 2) 1
 
--- an element that is not let through is cleared with z, else kept
-abbrev pub maskedOff : Bool → Origin
-maskedOff zeroing = if zeroing then Zero else Kept
+-- an element that is not let through is cleared with z, else it stays what it was
+abbrev pub maskedOff : Bool → ℕ → Origin
+maskedOff zeroing j = if zeroing then Zero else Destination j
 
--- zero from the width on; an element that is let through is picked
+-- an element that starts at the width or above it is zero; one that is let through is picked
 unfoldable pub originOf : Instruction → ℕ → ℕ → ℕ → Origin
-originOf x bits c i =
-    if leb (widthBytes (x .width)) i then Zero
-    else if written bits (i / elementBytes (x .element)) then
-    pickOf (moveOf (x .mnemonic) (x .immediate)) (elementBytes (x .element)) (widthBytes (x .width)) c i
-    else maskedOff (x .zeroing)
+originOf x bits c j =
+    if leb (widthBytes (x .width)) (elementBytes (x .element) * j) then Zero
+    else if written bits j then pickOf (x .moves) (elementBytes (x .element)) (widthBytes (x .width)) c j
+    else maskedOff (x .zeroing) j

@@ -1,56 +1,27 @@
-// For each byte of the destination, where it comes from.
+// For each element of the destination, where it comes from.
 ghost use mathlib.Core.Path.{_≡_};
-ghost use Prim.Native.Nat.{_*_, _/_, _%_, _<_, _≤_};
+ghost use Prim.Native.Nat.{_+_, _*_, _/_, _%_, _^_, _<_, _≤_};
 ghost use lib.ListN.{getD};
-ghost use Rattle.moves.specs.declared.Move.{Move};
-ghost use Rattle.isa.specs.Operands.{widthBytes, elementBytes};
-ghost use Rattle.moves.specs.Pick.{moveOf, immediateByte, picks, digit, placeIn, inLane, unpackLow, laneBy, laneOf, pickOf};
-ghost use Rattle.moves.specs.Moved.{firstRegister};
+ghost use Rattle.isa.specs.Operands.{widthBytes, elementBytes, digitBits};
+ghost use Rattle.moves.specs.Pick.{perLane, groupStart, digit, picks, lowHalves, laneOrZero, pickOf};
+ghost use Rattle.moves.specs.Moved.{firstRegister, immediateByte};
 ghost use Rattle.moves.specs.Origin.{bitsOf, written, originOf, maskedOff};
 use decode::instruction::First;
 use decode::instruction::Immediate;
 use decode::instruction::Instruction;
 use isa::kinds::Mask;
 use isa::kinds::Reg;
+use isa::operands::Digits;
 use isa::operands::Element;
-use isa::operands::Mnemonic;
+use isa::operands::Move;
 use isa::operands::Width;
 
-// A byte of the first source or of the third operand, a zero, or the byte that was there.
+// An element of the first source, of the third operand or of the old destination, or zero.
 pub enum Origin {
     First(u16),
     Third(u16),
+    Destination(u16),
     Zero,
-    Kept,
-}
-
-// The ways in which instructions choose, whatever the element's size.
-pub enum Move {
-    // An element of its own lane of the third operand, by the immediate.
-    LaneByImmediate,
-    // An element of its own lane of the first source, by the third operand.
-    LaneByThird,
-    // Any element of the third operand, by the first source.
-    AnyByFirst,
-    // The low halves of the two sources' lanes, in turn.
-    UnpackLow,
-    // A lane of either source, or zero, by the immediate.
-    LaneOrZero,
-}
-
-pub fn move_of(mnemonic: Mnemonic, immediate: Immediate) -> Move
-    ensures { λ r. ⌜ r ≡ moveOf mnemonic immediate ⌝ }
-{
-    match mnemonic {
-        Mnemonic::Vpermilpd => match immediate {
-            Immediate::Byte(_) => Move::LaneByImmediate,
-            Immediate::Absent => Move::LaneByThird,
-        },
-        Mnemonic::Vpermb => Move::AnyByFirst,
-        Mnemonic::Vunpcklps => Move::UnpackLow,
-        Mnemonic::Vpshufd => Move::LaneByImmediate,
-        Mnemonic::Vperm2f128 => Move::LaneOrZero,
-    }
 }
 
 // The immediate, and 0 where there is none.
@@ -61,6 +32,23 @@ pub fn immediate_byte(immediate: Immediate) -> u8
         Immediate::Byte(byte) => byte,
         Immediate::Absent => 0,
     }
+}
+
+// The first source; a form that has none moves nothing from it.
+pub fn first_register(first: First) -> Reg
+    ensures { λ r. ⌜ r ≡ firstRegister first ⌝ }
+{
+    match first {
+        First::Register(register) => register,
+        First::Absent => Reg::of(0, 0),
+    }
+}
+
+// Where element p starts.
+pub fn element_start(element: Element, p: u16) -> u32
+    ensures { λ r. ⌜ (r ≡ elementBytes element * p) × (r ≤ 1048560) ⌝ }
+{
+    element.bytes() as u32 * p as u32
 }
 
 // The four picks of a control: bits 1:0, 3:2, 5:4 and 7:6.
@@ -76,72 +64,15 @@ fn pick_at(four: [u8; 4], j: u8) -> u8
     four[(j % 4) as usize]
 }
 
-// The immediate's digit for element j.
-fn digit_of(element: Element, c: u8, j: u8) -> u8
-    ensures { λ r. ⌜ r ≡ digit (elementBytes element) c j ⌝ }
+// The digit of a control that is element j's.
+fn digit_of(digits: Digits, c: u8, j: u8) -> u8
+    ensures { λ r. ⌜ r ≡ digit (digitBits digits) c j ⌝ }
 {
-    match element {
-        Element::Byte => c,
-        Element::Doubleword => pick_at(picks_of(c), j),
-        Element::Quadword => (pick_at(picks_of(c), j / 2) >> (j % 2)) % 2,
-        Element::Lane => 0,
+    match digits {
+        Digits::One => (c >> (j % 8)) % 2,
+        Digits::Two => pick_at(picks_of(c), j),
+        Digits::Four => (c >> (4 * (j % 2))) % 16,
     }
-}
-
-// The place of byte i in element p, counted from element 0.
-fn place_in(n: u8, p: u8, i: u8) -> u16
-    requires { ⌜ 0 < n ⌝ }
-    ensures { λ r. ⌜ (r ≡ placeIn n p i) × (r ≤ 65279) ⌝ }
-{
-    n as u16 * p as u16 + (i % n) as u16
-}
-
-// The same, with elements counted from the start of i's own lane.
-fn in_lane(n: u8, p: u8, i: u8) -> u16
-    requires { ⌜ 0 < n ⌝ }
-    ensures { λ r. ⌜ r ≡ inLane n p i ⌝ }
-{
-    16 * (i / 16) as u16 + place_in(n, p, i)
-}
-
-fn unpack_low(n: u8, i: u8) -> Origin
-    requires { ⌜ 0 < n ⌝ }
-    ensures { λ r. ⌜ r ≡ unpackLow n i ⌝ }
-{
-    let k = i % 16 / n;
-    let from = in_lane(n, k / 2, i);
-    if k % 2 == 0 {
-        return Origin::First(from);
-    }
-    Origin::Third(from)
-}
-
-// Byte i of the lane that the four bits s choose.
-fn lane_by(n: u8, s: u8, i: u8) -> Origin
-    requires { ⌜ 0 < n ⌝ }
-    ensures { λ r. ⌜ r ≡ laneBy n s i ⌝ }
-{
-    let from = place_in(n, s % 2, i);
-    let clear = s / 8 % 2;
-    let second = s / 2 % 2;
-    if clear == 1 {
-        return Origin::Zero;
-    }
-    if second == 0 {
-        return Origin::First(from);
-    }
-    Origin::Third(from)
-}
-
-fn lane_of(n: u8, c: u8, i: u8) -> Origin
-    requires { ⌜ 0 < n ⌝ }
-    ensures { λ r. ⌜ r ≡ laneOf n c i ⌝ }
-{
-    let lane = i / n;
-    if lane == 0 {
-        return lane_by(n, c % 16, i);
-    }
-    lane_by(n, c / 16, i)
 }
 
 // How many elements a width has.
@@ -151,38 +82,87 @@ fn count(width: Width, element: Element) -> u8
     width.bytes() / element.bytes()
 }
 
-fn any_by_first(width: Width, element: Element, c: u8, i: u8) -> Origin
-    ensures { λ r. ⌜ r ≡ pickOf Move.AnyByFirst (elementBytes element) (widthBytes width) c i ⌝ }
+// Element k's number in its group of g.
+fn in_group(g: u8, k: u8) -> u8
+    requires { ⌜ 0 < g ⌝ }
+    ensures { λ r. ⌜ r ≡ k % g ⌝ }
 {
-    let n = element.bytes();
-    let p = c % count(width, element);
-    Origin::Third(place_in(n, p, i))
+    k % g
 }
 
-fn lane_by_immediate(element: Element, c: u8, i: u8) -> u16
-    ensures { λ r. ⌜ r ≡ inLane (elementBytes element) (digit (elementBytes element) c (i / elementBytes element)) i ⌝ }
+// The first element of j's group of g.
+fn group_start(g: u8, j: u8) -> u8
+    requires { ⌜ 0 < g ⌝ }
+    ensures { λ r. ⌜ r ≡ groupStart g j ⌝ }
 {
-    let n = element.bytes();
-    in_lane(n, digit_of(element, c, i / n), i)
+    j - j % g
 }
 
-fn lane_by_third(element: Element, c: u8, i: u8) -> u16
-    ensures { λ r. ⌜ r ≡ inLane (elementBytes element) (4 * (c % 4) / elementBytes element) i ⌝ }
+fn by_digit(digits: Digits, group: Width, element: Element, c: u8, j: u8) -> u16
+    ensures { λ r. ⌜ r ≡ groupStart (widthBytes group / elementBytes element) j + digit (digitBits digits) c j ⌝ }
 {
-    let n = element.bytes();
-    in_lane(n, 4 * (c % 4) / n, i)
+    let g = count(group, element);
+    group_start(g, j) as u16 + digit_of(digits, c, j) as u16
 }
 
-// Byte i of a full result, for a control c.
-pub fn pick(kind: Move, element: Element, width: Width, c: u8, i: u8) -> Origin
-    ensures { λ r. ⌜ r ≡ pickOf kind (elementBytes element) (widthBytes width) c i ⌝ }
+// The control without the bits below one of them.
+fn from_bit(bit: u8, c: u8) -> u8
+    ensures { λ r. ⌜ r ≡ c / 2 ^ bit ⌝ }
 {
-    match kind {
-        Move::LaneByImmediate => Origin::Third(lane_by_immediate(element, c, i)),
-        Move::LaneByThird => Origin::First(lane_by_third(element, c, i)),
-        Move::AnyByFirst => any_by_first(width, element, c, i),
-        Move::UnpackLow => unpack_low(element.bytes(), i),
-        Move::LaneOrZero => lane_of(element.bytes(), c, i),
+    if bit < 8 { c >> bit } else { 0 }
+}
+
+fn in_lane(bit: u8, element: Element, c: u8, j: u8) -> u16
+    ensures { λ r. ⌜ r ≡ groupStart (perLane (elementBytes element)) j + c / 2 ^ bit % perLane (elementBytes element) ⌝ }
+{
+    let e = count(Width::Bits128, element);
+    group_start(e, j) as u16 + in_group(e, from_bit(bit, c)) as u16
+}
+
+fn anywhere(width: Width, element: Element, c: u8) -> u16
+    ensures { λ r. ⌜ r ≡ c % (widthBytes width / elementBytes element) ⌝ }
+{
+    in_group(count(width, element), c) as u16
+}
+
+fn low_halves(element: Element, j: u8) -> Origin
+    ensures { λ r. ⌜ r ≡ lowHalves (perLane (elementBytes element)) j ⌝ }
+{
+    let e = count(Width::Bits128, element);
+    let k = in_group(e, j);
+    let from = group_start(e, j) as u16 + (k / 2) as u16;
+    if k % 2 == 0 {
+        return Origin::First(from);
+    }
+    Origin::Third(from)
+}
+
+// The lane that four bits choose.
+fn lane_or_zero(s: u8) -> Origin
+    ensures { λ r. ⌜ r ≡ laneOrZero s ⌝ }
+{
+    let clear = s / 8 % 2;
+    let second = s / 2 % 2;
+    let lane = (s % 2) as u16;
+    if clear == 1 {
+        return Origin::Zero;
+    }
+    if second == 0 {
+        return Origin::First(lane);
+    }
+    Origin::Third(lane)
+}
+
+// Element j of a full result, for a control c.
+fn pick(moves: Move, element: Element, width: Width, c: u8, j: u8) -> Origin
+    ensures { λ r. ⌜ r ≡ pickOf moves (elementBytes element) (widthBytes width) c j ⌝ }
+{
+    match moves {
+        Move::ByDigit(digits, group) => Origin::Third(by_digit(digits, group, element, c, j)),
+        Move::InLane(bit) => Origin::First(in_lane(bit, element, c, j)),
+        Move::Anywhere => Origin::Third(anywhere(width, element, c)),
+        Move::LowHalves => low_halves(element, j),
+        Move::LaneOrZero => lane_or_zero(digit_of(Digits::Four, c, j)),
     }
 }
 
@@ -201,54 +181,35 @@ pub fn mask_bits(masks: &[u64], mask: Mask) -> u64
 }
 
 // Whether element j is let through.
-pub fn is_written(bits: u64, j: u8) -> bool
+fn is_written(bits: u64, j: u8) -> bool
     ensures { λ r. ⌜ r ≡ written bits j ⌝ }
 {
     if j < 64 { (bits >> j) % 2 == 1 } else { false }
 }
 
 // Where an element that is not let through comes from.
-pub fn masked_off(zeroing: bool) -> Origin
-    ensures { λ r. ⌜ r ≡ maskedOff zeroing ⌝ }
+fn masked_off(zeroing: bool, j: u8) -> Origin
+    ensures { λ r. ⌜ r ≡ maskedOff zeroing j ⌝ }
 {
-    if zeroing { Origin::Zero } else { Origin::Kept }
+    if zeroing {
+        Origin::Zero
+    } else {
+        Origin::Destination(j as u16)
+    }
 }
 
-// Byte i of a full result, by the instruction's own move. Within origin_of, the compiler would put the origin together in
-// memory, and wait for it there.
-fn picked(x: Instruction, c: u8, i: u8) -> Origin
-    ensures { λ r. ⌜ r ≡ pickOf (moveOf (x .mnemonic) (x .immediate)) (elementBytes (x .element)) (widthBytes (x .width)) c i ⌝ }
-{
-    let mnemonic = x.mnemonic;
-    let immediate = x.immediate;
-    let element = x.element;
-    let width = x.width;
-    pick(move_of(mnemonic, immediate), element, width, c, i)
-}
-
-// Byte i of the destination, for a control c and the elements that are written.
-pub fn origin_of(x: Instruction, bits: u64, c: u8, i: u8) -> Origin
-    ensures { λ r. ⌜ r ≡ originOf x bits c i ⌝ }
+// Element j of the destination, for a control c and the elements that are written.
+pub fn origin_of(x: Instruction, bits: u64, c: u8, j: u8) -> Origin
+    ensures { λ r. ⌜ r ≡ originOf x bits c j ⌝ }
 {
     let width = x.width;
     let element = x.element;
-    let v = width.bytes();
-    let n = element.bytes();
-    if v <= i {
+    let moves = x.moves;
+    if width.bytes() as u32 <= element_start(element, j as u16) {
         return Origin::Zero;
     }
-    if is_written(bits, i / n) {
-        return picked(x, c, i);
+    if is_written(bits, j) {
+        return pick(moves, element, width, c, j);
     }
-    masked_off(x.zeroing)
-}
-
-// The first source; a form that has none moves nothing from it.
-pub fn first_register(first: First) -> Reg
-    ensures { λ r. ⌜ r ≡ firstRegister first ⌝ }
-{
-    match first {
-        First::Register(register) => register,
-        First::Absent => Reg::of(0, 0),
-    }
+    masked_off(x.zeroing, j)
 }

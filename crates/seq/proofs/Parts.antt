@@ -1,14 +1,14 @@
 -- Parts of lists: of a list that is mapped, and of two lists that agree there. And a test that is computed at every number below a bound.
 use mathlib.Core.Path.{_≡_, refl, sym, _∙_, ap}
-use mathlib.Core.Bool.{Bool, true, false}
+use mathlib.Core.Bool.{Bool, true}
 use mathlib.Core.List.{List, [], _∷_, map}
 use Prim.Native.Nat.{ℕ, zero, suc, _+_, _<_}
 use native.Mathlib.Nat.{le-of-suc-le-suc, not-suc-le-zero}
 use native.Mathlib.Omega.{arith}
-use lib.Dec.{T}
 use lib.ListN.{length, getD, take, drop, length-take, length-drop}
 use lib.Seq.{ext-getD, getD-take, getD-drop}
-use Rattle.seq.specs.Choice.{if_then_else_, both}
+use Rattle.seq.specs.Choice.{both}
+use Rattle.seq.proofs.Choice.{both-true}
 
 pub map-take {ℓ κ} : {A : Type ℓ} {B : Type κ} (h : A → B) (n : ℕ) (l : List A) → map h (take n l) ≡ take n (map h l)
 map-take h zero l = refl
@@ -33,15 +33,7 @@ abbrev pub every : ℕ → (ℕ → Bool) → Bool
 every zero f = true
 every (suc n) f = both (f 0) (every n (λ k. f (suc k)))
 
-pub at-every : (n : ℕ) (f : ℕ → Bool) → T (every n f) → (j : ℕ) → j < n → f j ≡ true
+pub at-every : (n : ℕ) (f : ℕ → Bool) → every n f ≡ true → (j : ℕ) → j < n → f j ≡ true
 at-every zero f t j h = absurd (not-suc-le-zero h)
-at-every (suc n) f t zero h = first (f 0) (every n (λ k. f (suc k))) t
-  where
-    first : (a b : Bool) → T (both a b) → a ≡ true
-    first true b u = refl
-    first false b u = absurd u
-at-every (suc n) f t (suc j) h = at-every n (λ k. f (suc k)) (rest (f 0) (every n (λ k. f (suc k))) t) j (le-of-suc-le-suc h)
-  where
-    rest : (a b : Bool) → T (both a b) → T b
-    rest true b u = u
-    rest false b u = absurd u
+at-every (suc n) f t zero h = both-true (f 0) (every n (λ k. f (suc k))) t .0
+at-every (suc n) f t (suc j) h = at-every n (λ k. f (suc k)) (both-true (f 0) (every n (λ k. f (suc k))) t .1) j (le-of-suc-le-suc h)

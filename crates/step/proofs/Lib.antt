@@ -3,4 +3,4 @@ mod FourLanes
 mod Elements
 pub mod Rules
 pub mod Laws
-pub mod Examples
+pub mod Cases

@@ -10,6 +10,8 @@ use Rattle.seq.specs.Tabulate.{tabulate}
 use Rattle.isa.specs.Kinds.{registers, fileSize, maskCount, offsetOf}
 use Rattle.isa.specs.declared.kinds.Reg.{Reg}
 use Rattle.isa.specs.declared.kinds.Offset.{Offset}
+use Rattle.isa.specs.Operands.{elementBytes}
+use Rattle.isa.specs.declared.operands.Control.{Control}
 use Rattle.isa.specs.declared.refusal.Refusal.{Refusal}
 use Rattle.isa.specs.declared.refusal.Refusal.the-variants.{Argument, MemoryLength}
 use Rattle.decode.specs.Instruction.{wantedOf}
@@ -17,12 +19,12 @@ use Rattle.decode.specs.Decode.{decodeOf}
 use Rattle.decode.specs.declared.instruction.Third.{Third}
 use Rattle.decode.specs.declared.instruction.Instruction.{Instruction}
 use Rattle.decode.specs.declared.instruction.Decoded.{Decoded}
-use Rattle.moves.specs.Origin.{bitsOf}
-use Rattle.moves.specs.Moved.{registerAt, thirdPart, repeated, controlBy, placed, moved}
+use Rattle.moves.specs.Origin.{bitsOf, originOf}
+use Rattle.moves.specs.Moved.{registerAt, thirdPart, repeated, immediateByte, controlBy, placed, moved}
 use Rattle.moves.proofs.Placed.{placed-ext}
-use Rattle.moves.specs.declared.Move.{Move}
+use Rattle.moves.specs.declared.Origin.{Origin}
 use Rattle.step.specs.Step.{executedOf, executedFile, stepOf, fileAfter}
-use Rattle.step.specs.Inner.{registerPart, byteOf, lanesOf, laneByte, refusedOf}
+use Rattle.step.specs.Inner.{registerPart, originAt, byteOf, lanesOf, laneByte, refusedOf}
 use Rattle.step.specs.declared.Stepped.{Stepped}
 use Rattle.step.proofs.FourLanes.{lanes-at}
 
@@ -55,21 +57,23 @@ repeated-within part j h = rw (mod-eq-of-lt h)
 pub repeated-none : (part : List ℕ) (j : ℕ) → length part ≡ 0 → 0 ≡ repeated 0 part j
 repeated-none part j h = sym (List·getD-eq-default part 0 (omega arith))
 
-module _ (kind : Move) (immediate first third r : ℕ) where
-  pub control-third : kind ≡ Move.LaneByThird → r ≡ third → r ≡ controlBy kind immediate first third
-  control-third q e = e ∙ rw q
+module _ (k : Control) (immediate first third r : ℕ) where
+  pub control-nowhere : k ≡ Control.Nowhere → 0 ≡ controlBy k immediate first third
+  control-nowhere q = rw q
 
-  pub control-first : kind ≡ Move.AnyByFirst → r ≡ first → r ≡ controlBy kind immediate first third
-  control-first q e = e ∙ rw q
-
-  pub control-immediate : kind ≡ Move.LaneByImmediate → r ≡ immediate → r ≡ controlBy kind immediate first third
+  pub control-immediate : k ≡ Control.Immediate → r ≡ immediate → r ≡ controlBy k immediate first third
   control-immediate q e = e ∙ rw q
 
-  pub control-unpack : kind ≡ Move.UnpackLow → r ≡ immediate → r ≡ controlBy kind immediate first third
-  control-unpack q e = e ∙ rw q
+  pub control-first : k ≡ Control.First → r ≡ first → r ≡ controlBy k immediate first third
+  control-first q e = e ∙ rw q
 
-  pub control-lane : kind ≡ Move.LaneOrZero → r ≡ immediate → r ≡ controlBy kind immediate first third
-  control-lane q e = e ∙ rw q
+  pub control-third : k ≡ Control.Third → r ≡ third → r ≡ controlBy k immediate first third
+  control-third q e = e ∙ rw q
+
+-- the origin by the control that was read at the element's start
+pub origin-by : (x : Instruction) (bits : ℕ) (first third : List ℕ) (j s : ℕ) → s ≡ elementBytes (x .element) * j → (c : ℕ)
+    → c ≡ controlBy (x .control) (immediateByte (x .immediate)) (repeated 0 first s) (repeated 0 third s) → (o : Origin) → o ≡ originOf x bits c j → o ≡ originAt x bits first third j
+origin-by x bits first third j s p c q o e = e ∙ rw (q, p)
 
 pub refused-no : (d : Decoded) (why : Refusal) → d ≡ Decoded.Refused why → Stepped.Refused why ≡ refusedOf d
 refused-no d why p = rw p

@@ -4,16 +4,14 @@ use mathlib.Core.List.{List, []}
 use lib.ListN.{getD, take, drop}
 use Rattle.seq.specs.Tabulate.{tabulate}
 use Rattle.isa.specs.Kinds.{registerBytes, offsetOf}
-use Rattle.isa.specs.Operands.{widthBytes, elementBytes}
+use Rattle.isa.specs.Operands.{elementBytes}
 use Rattle.isa.specs.declared.kinds.Reg.{Reg}
 use Rattle.decode.specs.declared.instruction.Instruction.{Instruction}
 use Rattle.decode.specs.declared.instruction.Decoded.{Decoded}
-use Rattle.moves.specs.Pick.{moveOf, immediateByte, pickOf}
 use Rattle.moves.specs.Origin.{originOf}
-use Rattle.moves.specs.Moved.{held, repeated, controlBy, elementStart, entryOf}
-use Rattle.moves.specs.declared.Move.{Move}
+use Rattle.moves.specs.Moved.{held, repeated, immediateByte, controlBy, entryOf}
 use Rattle.moves.specs.declared.Origin.{Origin}
-use Rattle.moves.specs.declared.Origin.the-variants.{First, Third, Zero, Kept}
+use Rattle.moves.specs.declared.Origin.the-variants.{First, Third, Destination, Zero}
 use Rattle.step.specs.declared.Stepped.{Stepped}
 
 -- byte i of the destination
@@ -24,34 +22,30 @@ byteOf = entryOf (λ b. b) 0
 abbrev pub registerPart : Reg → List ℕ → List ℕ
 registerPart r file = take registerBytes (drop (offsetOf r 0 .0) file)
 
--- the control of the element that starts at byte i, by the kind of move, with the first source and the third operand as parts
-abbrev pub controlAt : Move → Instruction → List ℕ → List ℕ → ℕ → ℕ
-controlAt kind x first third i = controlBy kind (immediateByte (x .immediate)) (repeated 0 first i) (repeated 0 third i)
+-- where element j comes from, with the first source and the third operand as parts
+abbrev pub originAt : Instruction → ℕ → List ℕ → List ℕ → ℕ → Origin
+originAt x bits first third j =
+    let start = elementBytes (x .element) * j in
+    originOf x bits (controlBy (x .control) (immediateByte (x .immediate)) (repeated 0 first start) (repeated 0 third start)) j
 
--- where that element comes from: in a full result, and under the mask
-abbrev pub pickAt : Move → Instruction → List ℕ → List ℕ → ℕ → Origin
-pickAt kind x first third i = pickOf kind (elementBytes (x .element)) (widthBytes (x .width)) (controlAt kind x first third i) i
-
-abbrev pub originAt : Move → Instruction → ℕ → List ℕ → List ℕ → ℕ → Origin
-originAt kind x bits first third i = originOf x bits (controlAt kind x first third i) i
-
--- the part and the place in it that an origin stands for; `kept` is the old destination
+-- the part and the element of it that an origin stands for
 abbrev pub originPart : Origin → List ℕ → List ℕ → List ℕ → List ℕ
-originPart (First j) first third kept = first
-originPart (Third j) first third kept = third
-originPart Zero first third kept = []
-originPart Kept first third kept = kept
+originPart (First p) first third old = first
+originPart (Third p) first third old = third
+originPart (Destination p) first third old = old
+originPart Zero first third old = []
 
-abbrev pub originPlace : Origin → ℕ → ℕ
-originPlace (First j) i = j
-originPlace (Third j) i = j
-originPlace Zero i = 0
-originPlace Kept i = i
+abbrev pub originElement : Origin → ℕ
+originElement (First p) = p
+originElement (Third p) = p
+originElement (Destination p) = p
+originElement Zero = 0
 
 -- byte i of the destination, with its three sources as parts
 unfoldable pub partsByte : Instruction → ℕ → List ℕ → List ℕ → List ℕ → ℕ → ℕ
-partsByte x bits first third kept i =
-    held 0 (repeated 0 first) (repeated 0 third) (repeated 0 kept i) (originOf x bits (controlAt (moveOf (x .mnemonic) (x .immediate)) x first third (elementStart x i)) i)
+partsByte x bits first third old i =
+    let n = elementBytes (x .element) in
+    held 0 n (repeated 0 first) (repeated 0 third) (repeated 0 old) (originAt x bits first third (i / n)) (i % n)
 
 -- 64 bytes as four lanes, and back
 unfoldable pub lanesOf : (ℕ → ℕ) → List (List ℕ)

@@ -5,12 +5,10 @@ ghost use Prim.Native.Nat.{_+_, _*_, _/_, _%_, _<_};
 ghost use lib.ListN.{length, getD};
 ghost use Rattle.seq.specs.Tabulate.{tabulate};
 ghost use Rattle.isa.specs.Kinds.{registers, fileSize};
-ghost use Rattle.isa.specs.Operands.{widthBytes};
 ghost use Rattle.decode.specs.Decode.{decodeOf};
-ghost use Rattle.moves.specs.Pick.{moveOf, immediateByte};
-ghost use Rattle.moves.specs.Moved.{thirdPart, repeated, controlBy, placed};
+ghost use Rattle.moves.specs.Moved.{thirdPart, repeated, immediateByte, controlBy, placed};
 ghost use Rattle.step.specs.Step.{executedOf, executedFile, stepOf, fileAfter};
-ghost use Rattle.step.specs.Inner.{registerPart, pickAt, originAt, originPart, originPlace, partsByte, byteOf, lanesOf, laneByte, refusedOf};
+ghost use Rattle.step.specs.Inner.{registerPart, originAt, originPart, originElement, partsByte, byteOf, lanesOf, laneByte, refusedOf};
 use decode::instruction::Decoded;
 use decode::instruction::Immediate;
 use decode::instruction::Instruction;
@@ -20,8 +18,8 @@ use isa::kinds::Mask;
 use isa::kinds::Offset;
 use isa::kinds::Reg;
 use isa::kinds::RegisterFile;
+use isa::operands::Control;
 use isa::refusal::Refusal;
-use moves::Move;
 use moves::Origin;
 
 pub enum Stepped {
@@ -52,11 +50,11 @@ fn third_part<'a>(third: Third, file: &'a [u8], memory: &'a [u8]) -> &'a [u8]
     }
 }
 
-// Byte j of an operand that repeats.
-fn repeated_byte(part: &[u8], j: u32) -> u8
-    ensures { λ r. ⌜ r ≡ repeated 0 (now (part .entry)) j ⌝ }
+// Byte i of an operand that repeats.
+fn repeated_byte(part: &[u8], i: u32) -> u8
+    ensures { λ r. ⌜ r ≡ repeated 0 (now (part .entry)) i ⌝ }
 {
-    let at = j as usize;
+    let at = i as usize;
     if at < part.len() {
         return part[at];
     }
@@ -66,95 +64,78 @@ fn repeated_byte(part: &[u8], j: u32) -> u8
     part[at % part.len()]
 }
 
-// The control of the element that starts at byte i.
-fn control(kind: Move, immediate: Immediate, first: &[u8], third: &[u8], i: u8) -> u8
-    ensures { λ r. ⌜ r ≡ controlBy kind (immediateByte immediate) (repeated 0 (now (first .entry)) i) (repeated 0 (now (third .entry)) i) ⌝ }
+// The control of the element that starts at a byte.
+fn control(from: Control, immediate: Immediate, first: &[u8], third: &[u8], start: u32) -> u8
+    ensures { λ r. ⌜ r ≡ controlBy from (immediateByte immediate) (repeated 0 (now (first .entry)) start) (repeated 0 (now (third .entry)) start) ⌝ }
 {
-    let start = i as u32;
-    match kind {
-        Move::LaneByThird => repeated_byte(third, start),
-        Move::AnyByFirst => repeated_byte(first, start),
-        Move::LaneByImmediate => moves::immediate_byte(immediate),
-        Move::UnpackLow => moves::immediate_byte(immediate),
-        Move::LaneOrZero => moves::immediate_byte(immediate),
+    match from {
+        Control::Nowhere => 0,
+        Control::Immediate => moves::immediate_byte(immediate),
+        Control::First => repeated_byte(first, start),
+        Control::Third => repeated_byte(third, start),
     }
 }
 
-// Where the element that starts at byte i comes from in a full result. A function of its own as moves::picked is, for
-// speed.
-fn picked(x: Instruction, kind: Move, first: &[u8], third: &[u8], i: u8) -> Origin
-    ensures { λ r. ⌜ r ≡ pickAt kind x (now (first .entry)) (now (third .entry)) i ⌝ }
+// Where element j comes from.
+fn origin_at(x: Instruction, bits: u64, first: &[u8], third: &[u8], j: u8) -> Origin
+    ensures { λ r. ⌜ r ≡ originAt x bits (now (first .entry)) (now (third .entry)) j ⌝ }
 {
+    let from = x.control;
     let immediate = x.immediate;
     let element = x.element;
-    let width = x.width;
-    let c = control(kind, immediate, first, third, i);
-    moves::pick(kind, element, width, c, i)
+    let start = moves::element_start(element, j as u16);
+    moves::origin_of(x, bits, control(from, immediate, first, third, start), j)
 }
 
-// Where the element that starts at byte i comes from. The kind of move is found once a step, and the width is looked at
-// once a lane.
-fn origin_at(x: Instruction, kind: Move, bits: u64, first: &[u8], third: &[u8], i: u8) -> Origin
-    requires { ⌜ (kind ≡ moveOf (x .mnemonic) (x .immediate)) × (i < widthBytes (x .width)) ⌝ }
-    ensures { λ r. ⌜ r ≡ originAt kind x bits (now (first .entry)) (now (third .entry)) i ⌝ }
-{
-    let element = x.element;
-    if moves::is_written(bits, i / element.bytes()) {
-        return picked(x, kind, first, third, i);
-    }
-    moves::masked_off(x.zeroing)
-}
-
-// An origin as a part, and as a place in it. Zero is a part with no bytes.
-fn origin_part<'a>(from: Origin, first: &'a [u8], third: &'a [u8], kept: &'a [u8]) -> &'a [u8]
-    ensures { λ r. ⌜ now r ≡ originPart from (now (first .entry)) (now (third .entry)) (now (kept .entry)) ⌝ }
+// An origin as a part, and as an element of it. Zero is a part with no bytes.
+fn origin_part<'a>(from: Origin, first: &'a [u8], third: &'a [u8], old: &'a [u8]) -> &'a [u8]
+    ensures { λ r. ⌜ now r ≡ originPart from (now (first .entry)) (now (third .entry)) (now (old .entry)) ⌝ }
 {
     match from {
         Origin::First(_) => first,
         Origin::Third(_) => third,
-        Origin::Zero => &kept[0..0],
-        Origin::Kept => kept,
+        Origin::Destination(_) => old,
+        Origin::Zero => &old[0..0],
     }
 }
 
-fn origin_place(from: Origin, i: u8) -> u16
-    ensures { λ r. ⌜ r ≡ originPlace from i ⌝ }
+fn origin_element(from: Origin) -> u16
+    ensures { λ r. ⌜ r ≡ originElement from ⌝ }
 {
     match from {
-        Origin::First(j) => j,
-        Origin::Third(j) => j,
+        Origin::First(p) => p,
+        Origin::Third(p) => p,
+        Origin::Destination(p) => p,
         Origin::Zero => 0,
-        Origin::Kept => i as u16,
     }
 }
 
 // A lane below the width. The origin is looked for at an element's first byte alone.
 fn lane_bytes<'a>(
     x: Instruction,
-    kind: Move,
     bits: u64,
     first: &'a [u8],
     third: &'a [u8],
-    kept: &'a [u8],
+    old: &'a [u8],
     l: u8,
 ) -> [u8; 16]
-    requires { ⌜ (l < 4) × (kind ≡ moveOf (x .mnemonic) (x .immediate)) × (16 * l < widthBytes (x .width)) ⌝ }
-    ensures { λ r. ⌜ r ≡ tabulate 16 (λ b. partsByte x bits (now (first .entry)) (now (third .entry)) (now (kept .entry)) (16 * l + b)) ⌝ }
+    requires { ⌜ l < 4 ⌝ }
+    ensures { λ r. ⌜ r ≡ tabulate 16 (λ b. partsByte x bits (now (first .entry)) (now (third .entry)) (now (old .entry)) (16 * l + b)) ⌝ }
 {
     let element = x.element;
     let n = element.bytes();
     let mut bytes = [0u8; 16];
     let mut part = third;
-    let mut place: u16 = 0;
+    let mut start: u32 = 0;
     for b in 0..16 {
         let i = 16 * l + b as u8;
         let k = i % n;
         if k == 0 {
-            let from = origin_at(x, kind, bits, first, third, i);
-            part = origin_part(from, first, third, kept);
-            place = origin_place(from, i);
+            let from = origin_at(x, bits, first, third, i / n);
+            part = origin_part(from, first, third, old);
+            start = moves::element_start(element, origin_element(from));
         }
-        bytes[b] = repeated_byte(part, place as u32 + k as u32);
+        bytes[b] = repeated_byte(part, start + k as u32);
     }
     bytes
 }
@@ -162,21 +143,20 @@ fn lane_bytes<'a>(
 // Lane l of the destination, which is zero from the width on.
 fn lane<'a>(
     x: Instruction,
-    kind: Move,
     bits: u64,
     first: &'a [u8],
     third: &'a [u8],
-    kept: &'a [u8],
+    old: &'a [u8],
     l: u8,
 ) -> [u8; 16]
-    requires { ⌜ (l < 4) × (kind ≡ moveOf (x .mnemonic) (x .immediate)) ⌝ }
-    ensures { λ r. ⌜ r ≡ tabulate 16 (λ b. partsByte x bits (now (first .entry)) (now (third .entry)) (now (kept .entry)) (16 * l + b)) ⌝ }
+    requires { ⌜ l < 4 ⌝ }
+    ensures { λ r. ⌜ r ≡ tabulate 16 (λ b. partsByte x bits (now (first .entry)) (now (third .entry)) (now (old .entry)) (16 * l + b)) ⌝ }
 {
     let width = x.width;
     if width.bytes() <= 16 * l {
         return [0u8; 16];
     }
-    lane_bytes(x, kind, bits, first, third, kept, l)
+    lane_bytes(x, bits, first, third, old, l)
 }
 
 // The destination's 64 bytes, in four lanes.
@@ -184,18 +164,15 @@ fn lanes<'a>(x: Instruction, bits: u64, file: &'a [u8], memory: &'a [u8]) -> [[u
     requires { ⌜ length (now file) ≡ fileSize ⌝ }
     ensures { λ r. ⌜ r ≡ lanesOf (byteOf x bits (thirdPart (x .third) (now (memory .entry)) (now (file .entry))) (now (file .entry))) ⌝ }
 {
-    let mnemonic = x.mnemonic;
-    let immediate = x.immediate;
     let source = x.first;
     let operand = x.third;
     let destination = x.destination;
-    let kind = moves::move_of(mnemonic, immediate);
     let first = register_part(moves::first_register(source), file);
     let third = third_part(operand, file, memory);
-    let kept = register_part(destination, file);
+    let old = register_part(destination, file);
     let mut new = [[0u8; 16]; 4];
     for l in 0..4u8 {
-        new[l as usize] = lane(x, kind, bits, first, third, kept, l);
+        new[l as usize] = lane(x, bits, first, third, old, l);
     }
     new
 }

@@ -1,5 +1,5 @@
 use borrow.Author.Needs.{needs}
-use Rattle.bytemap.proofs.Rules.{entry-first, entry-third, entry-zero, entry-kept}
+use Rattle.bytemap.proofs.Rules.{entry-by}
 use Rattle.bytemap.proofs.entry.Statement.{statement}
 use Rattle.bytemap.proofs.entry.Tie as tie
 
@@ -13,13 +13,4 @@ entry-spec =
     (λ c κs. search needs)
     (λ c. search needs)
     (λ c κs. search needs)
-    (λ c. search needs)
-    (λ c. search needs)
-    (λ c κs. search needs)
-    (λ c. search needs)
-    (λ c. search needs)
-    (λ c κs. search needs)
-    (λ c. search (needs, entry-first, entry-third, entry-zero, entry-kept) depth 12)
-    (λ c. search (needs, entry-first, entry-third, entry-zero, entry-kept) depth 12)
-    (λ c. search (needs, entry-first, entry-third, entry-zero, entry-kept) depth 12)
-    (λ c. search (needs, entry-first, entry-third, entry-zero, entry-kept) depth 12))
+    (λ c. search (needs, entry-by) depth 12))

@@ -9,6 +9,5 @@ is-mappable-spec =
     (tie.spec
     (λ c κs. search needs)
     (λ c κs. search needs)
-    (λ c κs. search needs)
-    (λ c. search (needs, mapped-by, not-mapped) depth 12)
-    (λ c. search (needs, mapped-by, not-mapped) depth 12))
+    (λ c. search (needs, mapped-by) depth 12)
+    (λ c. search (needs, not-mapped) depth 12))

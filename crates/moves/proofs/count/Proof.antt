@@ -1,5 +1,5 @@
 use borrow.Author.Needs.{needs}
-use Rattle.moves.proofs.Sizes.{some-elements}
+use Rattle.isa.proofs.Sizes.{element-divides, width-lanes, some-elements}
 use Rattle.moves.proofs.count.Statement.{statement}
 use Rattle.moves.proofs.count.Tie as tie
 
@@ -13,4 +13,5 @@ count-spec =
     (λ c.
     let w = c .before .bytes in
     let e = c .bytes2 in
-    (rw (w .ensures, e .ensures .0), rw (w .ensures, e .ensures .0) (some-elements (c .before .before .args .width) (c .before .before .args .element)))))
+    let a = c .before .before .args in
+    (rw (w .ensures, e .ensures .0), rw (w .ensures, e .ensures .0) (some-elements _ (element-divides (a .element)) _ (width-lanes (a .width))))))

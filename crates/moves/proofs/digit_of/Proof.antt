@@ -1,5 +1,5 @@
 use borrow.Author.Needs.{needs}
-use Rattle.moves.proofs.Rules.{digit-byte, digit-doubleword, digit-quadword, digit-lane}
+use Rattle.moves.proofs.Rules.{digit-one, digit-two, digit-four}
 use Rattle.moves.proofs.digit_of.Statement.{statement}
 use Rattle.moves.proofs.digit_of.Tie as tie
 
@@ -9,14 +9,12 @@ digit-of-spec =
     (tie.spec
     (λ c. search needs)
     (λ c. search needs)
-    (λ c κs. search needs)
-    (λ c κs. search needs)
     (λ c. search needs)
     (λ c κs. search needs)
     (λ c κs. search needs)
     (λ c. search needs)
     (λ c. search needs)
-    (λ c. search (needs, digit-byte, digit-doubleword, digit-quadword, digit-lane) depth 12)
-    (λ c. search (needs, digit-byte, digit-doubleword, digit-quadword, digit-lane) depth 12)
-    (λ c. search (needs, digit-byte, digit-doubleword, digit-quadword, digit-lane) depth 12)
-    (λ c. search (needs, digit-byte, digit-doubleword, digit-quadword, digit-lane) depth 12))
+    (λ c. search needs)
+    (λ c. search (needs, digit-one) depth 12)
+    (λ c. search (needs, digit-two) depth 12)
+    (λ c. search (needs, digit-four) depth 12))

@@ -1,0 +1,196 @@
+-- The worked cases of the rules: what decoding gives and, where the case says so, where the destination's bytes come from. The starred ones, all
+-- with features 31, then further ones: those that are not starred, cases in which two rules meet, and single rules that no starred case looks at.
+use Prim.Native.Nat.{ℕ, _+_, _*_}
+use mathlib.Core.Path.{_≡_, refl}
+use mathlib.Core.Bool.{Bool, true, false}
+use mathlib.Core.List.{List, [], _∷_, _++_, map}
+use lib.ListN.{replicate}
+use Rattle.seq.specs.Tabulate.{tabulate}
+use Rattle.isa.specs.Kinds.{registerBytes, zeroEntry}
+use Rattle.isa.specs.Features.{hasFeature}
+use Rattle.isa.specs.Operands.{mnemonicOf, widthOf, elementOf, digitsOf, moveFrom, controlOf}
+use Rattle.isa.specs.Table.{rows, findIn, matchesRow, matchesW}
+use Rattle.isa.specs.declared.operands.Mnemonic.{Mnemonic}
+use Rattle.isa.specs.declared.operands.Mnemonic.the-variants.{Vpermilpd, Vpermb, Vunpcklps, Vpshufd, Vperm2f128}
+use Rattle.isa.specs.declared.operands.Encoding.{Encoding}
+use Rattle.isa.specs.declared.operands.Encoding.the-variants.{Vex, Evex}
+use Rattle.isa.specs.declared.operands.Width.{Width}
+use Rattle.isa.specs.declared.operands.Width.the-variants.{Bits128, Bits256, Bits512}
+use Rattle.isa.specs.declared.operands.Element.{Element}
+use Rattle.isa.specs.declared.operands.Element.the-variants.{Byte, Doubleword, Quadword, Lane}
+use Rattle.isa.specs.declared.operands.Digits.the-variants.{One, Two}
+use Rattle.isa.specs.declared.operands.Move.{Move}
+use Rattle.isa.specs.declared.operands.Move.the-variants.{ByDigit, InLane, Anywhere, LowHalves, LaneOrZero}
+use Rattle.isa.specs.declared.operands.Control.{Control}
+use Rattle.isa.specs.declared.refusal.Field.{Field}
+use Rattle.isa.specs.declared.refusal.Field.the-variants.{FixedBits, W, Width as WidthField, Vvvv, Broadcast, Zeroing}
+use Rattle.isa.specs.declared.refusal.Refusal.the-variants.{Argument, Truncated, Unlisted, Reserved, Feature}
+use Rattle.decode.specs.Prefix.{prefixSize, prefixOf, fixedBits, headOf}
+use Rattle.decode.specs.Modrm.{sibSize, displacementSize}
+use Rattle.decode.specs.Reserved.{wrongW, wrongWidth, wrongVvvv, wrongBroadcast, wrongZeroing, checkOf, neededOf, enoughOf}
+use Rattle.decode.specs.Instruction.{encodingOf, firstOf, thirdOf, immediateOf, instructionOf}
+use Rattle.decode.specs.Decode.{finishOf, onTotal, onRow, onHead, knownOf, decodeOf, answerOf}
+use Rattle.decode.specs.declared.instruction.First.{First}
+use Rattle.decode.specs.declared.instruction.Third.{Third}
+use Rattle.decode.specs.declared.instruction.Immediate.{Immediate}
+use Rattle.decode.specs.declared.instruction.Instruction.{Instruction}
+use Rattle.decode.specs.declared.instruction.Decoded.{Decoded}
+use Rattle.decode.specs.declared.instruction.Decoded.the-variants.{Accepted, Refused}
+
+-- `places` has, for each of the destination's 64 bytes, an offset in the register file or the entry for zero; no places where the case does not say
+pub record Case : Type 0 where
+  pub bytes : List ℕ
+  pub features : ℕ
+  pub answer : ℕ
+  pub gives : Decoded
+  pub places : List ℕ
+
+abbrev pub case : List ℕ → ℕ → ℕ → Decoded → Case
+case bytes features answer gives = record { bytes = bytes; features = features; answer = answer; gives = gives; places = [] }
+
+abbrev pub moving : List ℕ → ℕ → Decoded → List ℕ → Case
+moving bytes features gives places = record { bytes = bytes; features = features; answer = 0; gives = gives; places = places }
+
+-- ---- what decoding gives
+
+-- answer 4, with the field that is wrong
+abbrev pub wrong : Field → Decoded
+wrong field = Refused (Reserved field)
+
+-- an instruction of the table: its name, element, move and control
+pub record Listed : Type 0 where
+  pub name : Mnemonic
+  pub element : Element
+  pub moves : Move
+  pub control : Control
+
+abbrev pub vpshufd : Listed
+vpshufd = record { name = Vpshufd; element = Doubleword; moves = ByDigit Two Bits128; control = Control.Immediate }
+
+abbrev pub vpermilpd : Listed
+vpermilpd = record { name = Vpermilpd; element = Quadword; moves = ByDigit One Bits128; control = Control.Immediate }
+
+abbrev pub vpermilpdRegister : Listed
+vpermilpdRegister = record { name = Vpermilpd; element = Quadword; moves = InLane 1; control = Control.Third }
+
+abbrev pub vpermb : Listed
+vpermb = record { name = Vpermb; element = Byte; moves = Anywhere; control = Control.First }
+
+abbrev pub vunpcklps : Listed
+vunpcklps = record { name = Vunpcklps; element = Doubleword; moves = LowHalves; control = Control.Nowhere }
+
+abbrev pub vperm2f128 : Listed
+vperm2f128 = record { name = Vperm2f128; element = Lane; moves = LaneOrZero; control = Control.Immediate }
+
+-- encoding, width, destination, first source, third operand, mask, z, b, immediate, length
+abbrev pub operands : Listed → Encoding → Width → ℕ → First → Third → ℕ → Bool → Bool → Immediate → ℕ → Decoded
+operands listed encoding width destination first third mask z b immediate length =
+    Accepted (record {
+      mnemonic = listed .name;
+      encoding = encoding;
+      width = width;
+      element = listed .element;
+      destination = record { 0 = destination };
+      first = first;
+      third = third;
+      mask = record { 0 = mask };
+      zeroing = z;
+      broadcast = b;
+      immediate = immediate;
+      moves = listed .moves;
+      control = listed .control;
+      length = length;
+    })
+
+abbrev pub register : ℕ → Third
+register r = Third.Register (record { 0 = r })
+
+abbrev pub source : ℕ → First
+source r = First.Register (record { 0 = r })
+
+-- a form with an immediate and no first source, and a register form of three registers
+abbrev pub byImmediate : Listed → Encoding → Width → ℕ → Third → ℕ → Bool → Bool → ℕ → ℕ → Decoded
+byImmediate listed encoding width destination third mask z b immediate length =
+    operands listed encoding width destination First.Absent third mask z b (Immediate.Byte immediate) length
+
+abbrev pub ofThree : Listed → Encoding → Width → ℕ → ℕ → ℕ → Immediate → ℕ → Decoded
+ofThree listed encoding width destination first third immediate length =
+    operands listed encoding width destination (source first) (register third) 0 false false immediate length
+
+-- ---- where bytes come from
+
+-- doubleword k, and quadword k, of register r; and n cleared bytes
+abbrev pub dword : ℕ → ℕ → List ℕ
+dword r k = tabulate 4 (λ b. registerBytes * r + 4 * k + b)
+
+abbrev pub qword : ℕ → ℕ → List ℕ
+qword r k = tabulate 8 (λ b. registerBytes * r + 8 * k + b)
+
+abbrev pub cleared : ℕ → List ℕ
+cleared n = replicate n zeroEntry
+
+-- lane l of register r with its doublewords turned round
+abbrev pub turned : ℕ → ℕ → List ℕ
+turned r l = dword r (4 * l + 3) ++ dword r (4 * l + 2) ++ dword r (4 * l + 1) ++ dword r (4 * l)
+
+-- ---- the cases
+
+unfoldable pub starredCases : List Case
+starredCases =
+    moving (0xC5 ∷ 0xF9 ∷ 0x70 ∷ 0xCA ∷ 0x1B ∷ []) 31 (byImmediate vpshufd Vex Bits128 1 (register 2) 0 false false 0x1B 5) (turned 2 0 ++ cleared 48)
+    ∷ case (0xC5 ∷ 0xF9 ∷ 0x70 ∷ 0xCA ∷ []) 31 2 (Refused Truncated)
+    ∷ case (0xC5 ∷ 0xE9 ∷ 0x70 ∷ 0xCA ∷ 0x1B ∷ []) 31 4 (wrong Vvvv)
+    ∷ case (0x62 ∷ 0xF1 ∷ 0x7D ∷ 0xC9 ∷ 0x70 ∷ 0xCA ∷ 0x1B ∷ []) 31 0 (byImmediate vpshufd Evex Bits512 1 (register 2) 1 true false 0x1B 7)
+    ∷ case (0x62 ∷ 0xF1 ∷ 0x7D ∷ 0xC8 ∷ 0x70 ∷ 0xCA ∷ 0x1B ∷ []) 31 4 (wrong Zeroing)
+    ∷ case (0x62 ∷ 0xF1 ∷ 0x7D ∷ 0x68 ∷ 0x70 ∷ 0xCA ∷ 0x1B ∷ []) 31 4 (wrong WidthField)
+    ∷ case (0x62 ∷ 0xF1 ∷ 0x7D ∷ 0x58 ∷ 0x70 ∷ 0x08 ∷ 0x00 ∷ []) 31 0 (byImmediate vpshufd Evex Bits512 1 (Third.Memory 4) 0 false true 0x00 7)
+    ∷ case (0x62 ∷ 0xF1 ∷ 0x7D ∷ 0x58 ∷ 0x70 ∷ 0xCA ∷ 0x1B ∷ []) 31 4 (wrong Broadcast)
+    ∷ moving (0x62 ∷ 0x81 ∷ 0x7D ∷ 0x48 ∷ 0x70 ∷ 0xCA ∷ 0x1B ∷ []) 31 (byImmediate vpshufd Evex Bits512 17 (register 26) 0 false false 0x1B 7)
+    (turned 26 0 ++ turned 26 1 ++ turned 26 2 ++ turned 26 3)
+    ∷ moving (0xC4 ∷ 0xE3 ∷ 0x7D ∷ 0x05 ∷ 0xCA ∷ 0x05 ∷ []) 31 (byImmediate vpermilpd Vex Bits256 1 (register 2) 0 false false 0x05 6)
+    (qword 2 1 ++ qword 2 0 ++ qword 2 3 ++ qword 2 2 ++ cleared 32)
+    ∷ case (0xC4 ∷ 0xE3 ∷ 0x69 ∷ 0x06 ∷ 0xCB ∷ 0x31 ∷ []) 31 4 (wrong WidthField)
+    ∷ case (0x62 ∷ 0xF2 ∷ 0x6D ∷ 0x58 ∷ 0x8D ∷ 0x08 ∷ []) 31 4 (wrong Broadcast)
+    ∷ []
+
+-- cases 13 to 16; then, in the order of rule 5.3: features over the limit; fixed bits before an unknown opcode; EVEX with another W; short bytes
+-- before a wrong width and before a missing feature; W, V' and vvvv; a wrong field before a missing feature; the feature of a row, and the one
+-- that is not asked for besides; AVX512VL
+unfoldable pub furtherCases : List Case
+furtherCases =
+    case (0xC4 ∷ 0xE2 ∷ 0x69 ∷ 0x0D ∷ 0xCB ∷ []) 31 0 (ofThree vpermilpdRegister Vex Bits128 1 2 3 Immediate.Absent 5)
+    ∷ moving (0xC5 ∷ 0xE8 ∷ 0x14 ∷ 0xCB ∷ []) 31 (ofThree vunpcklps Vex Bits128 1 2 3 Immediate.Absent 4) (dword 2 0 ++ dword 3 0 ++ dword 2 1 ++ dword 3 1 ++ cleared 48)
+    ∷ case (0xC5 ∷ 0xF9 ∷ 0x70 ∷ 0x44 ∷ 0x88 ∷ 0x10 ∷ 0x1B ∷ []) 31 0 (byImmediate vpshufd Vex Bits128 0 (Third.Memory 16) 0 false false 0x1B 7)
+    ∷ moving (0xC4 ∷ 0xE3 ∷ 0x6D ∷ 0x06 ∷ 0xCB ∷ 0x88 ∷ []) 31 (ofThree vperm2f128 Vex Bits256 1 2 3 (Immediate.Byte 0x88) 6) (cleared 64)
+    ∷ moving (0xC4 ∷ 0xE3 ∷ 0x6D ∷ 0x06 ∷ 0xCB ∷ 0x21 ∷ []) 31 (ofThree vperm2f128 Vex Bits256 1 2 3 (Immediate.Byte 0x21) 6)
+    (qword 2 2 ++ qword 2 3 ++ qword 3 0 ++ qword 3 1 ++ cleared 32)
+    ∷ case [] 32 1 (Refused Argument)
+    ∷ case (0x62 ∷ 0xFD ∷ 0x7D ∷ 0x48 ∷ 0xFF ∷ []) 31 4 (wrong FixedBits)
+    ∷ case (0x62 ∷ 0xF2 ∷ 0xED ∷ 0x48 ∷ 0x8D ∷ 0xCB ∷ []) 31 3 (Refused Unlisted)
+    ∷ case (0x62 ∷ 0xF2 ∷ 0x6D ∷ 0x48 ∷ 0x0D ∷ 0xCB ∷ []) 31 3 (Refused Unlisted)
+    ∷ case (0x62 ∷ 0xF2 ∷ 0xED ∷ 0x48 ∷ 0x0D ∷ 0xCB ∷ []) 31 0 (ofThree vpermilpdRegister Evex Bits512 1 2 3 Immediate.Absent 6)
+    ∷ case (0xC4 ∷ 0xE3 ∷ 0x69 ∷ 0x06 ∷ 0xCB ∷ []) 31 2 (Refused Truncated)
+    ∷ case (0xC5 ∷ 0xFD ∷ 0x70 ∷ 0xCA ∷ []) 1 2 (Refused Truncated)
+    ∷ case (0xC4 ∷ 0xE3 ∷ 0xFD ∷ 0x05 ∷ 0xCA ∷ 0x05 ∷ []) 31 4 (wrong W)
+    ∷ case (0x62 ∷ 0xF1 ∷ 0x7D ∷ 0x40 ∷ 0x70 ∷ 0xCA ∷ 0x1B ∷ []) 31 4 (wrong Vvvv)
+    ∷ case (0xC5 ∷ 0xED ∷ 0x70 ∷ 0xCA ∷ 0x1B ∷ []) 0 4 (wrong Vvvv)
+    ∷ case (0xC5 ∷ 0xFD ∷ 0x70 ∷ 0xCA ∷ 0x1B ∷ []) 1 5 (Refused Feature)
+    ∷ case (0xC5 ∷ 0xFD ∷ 0x70 ∷ 0xCA ∷ 0x1B ∷ []) 2 0 (byImmediate vpshufd Vex Bits256 1 (register 2) 0 false false 0x1B 5)
+    ∷ case (0x62 ∷ 0xF2 ∷ 0x6D ∷ 0x48 ∷ 0x8D ∷ 0xCB ∷ []) 4 5 (Refused Feature)
+    ∷ case (0x62 ∷ 0xF2 ∷ 0x6D ∷ 0x48 ∷ 0x8D ∷ 0xCB ∷ []) 16 0 (ofThree vpermb Evex Bits512 1 2 3 Immediate.Absent 6)
+    ∷ case (0x62 ∷ 0xF2 ∷ 0x6D ∷ 0x28 ∷ 0x8D ∷ 0xCB ∷ []) 16 5 (Refused Feature)
+    ∷ []
+
+-- every case decodes as it says, and its answer has its number
+abbrev pub Decodes : List Case → Type 0
+Decodes cases =
+    (map (λ (c : Case). decodeOf (c .bytes) (c .features)) cases ≡ map (λ (c : Case). c .gives) cases)
+    × (map (λ (c : Case). answerOf (c .gives)) cases ≡ map (λ (c : Case). c .answer) cases)
+
+pub starred-decode : Decodes starredCases
+unfolding starredCases decodeOf knownOf onHead onRow onTotal finishOf headOf prefixSize prefixOf fixedBits rows findIn matchesRow matchesW sibSize displacementSize checkOf wrongW wrongWidth wrongVvvv wrongBroadcast wrongZeroing enoughOf neededOf hasFeature instructionOf encodingOf firstOf thirdOf immediateOf mnemonicOf widthOf elementOf digitsOf moveFrom controlOf
+starred-decode = (refl, refl)
+
+pub further-decode : Decodes furtherCases
+unfolding furtherCases decodeOf knownOf onHead onRow onTotal finishOf headOf prefixSize prefixOf fixedBits rows findIn matchesRow matchesW sibSize displacementSize checkOf wrongW wrongWidth wrongVvvv wrongBroadcast wrongZeroing enoughOf neededOf hasFeature instructionOf encodingOf firstOf thirdOf immediateOf mnemonicOf widthOf elementOf digitsOf moveFrom controlOf
+further-decode = (refl, refl)

@@ -1,0 +1,56 @@
+-- The sizes of elements and widths, gone through once: an element's bytes divide a lane of 16, and a width is whole lanes. What else is said of
+-- sizes is said of every n that divides 16.
+use Prim.Native.Nat.{ℕ, _*_, _/_, _<_, _≤_, _∣_}
+use mathlib.Core.Path.{_≡_, refl}
+use native.Mathlib.Omega.{arith}
+use native.Mathlib.Nat.{dvd-of-mod-eq-zero, dvd-trans, le-of-dvd, pos-of-dvd-of-pos, le-div-iff-mul-le, mul-div-cancel', div-mul-cancel, mul-le-mul-left, lt-of-mul-lt-mul-left}
+use lib.Dec.{lit≤}
+use Rattle.isa.specs.Operands.{widthBytes, elementBytes}
+use Rattle.isa.specs.declared.operands.Width.{Width}
+use Rattle.isa.specs.declared.operands.Width.the-variants.{Bits128, Bits256, Bits512}
+use Rattle.isa.specs.declared.operands.Element.{Element}
+use Rattle.isa.specs.declared.operands.Element.the-variants.{Byte, Doubleword, Quadword, Lane}
+
+pub element-divides : (e : Element) → elementBytes e ∣ 16
+element-divides Byte = dvd-of-mod-eq-zero 1 refl
+element-divides Doubleword = dvd-of-mod-eq-zero 4 refl
+element-divides Quadword = dvd-of-mod-eq-zero 8 refl
+element-divides Lane = dvd-of-mod-eq-zero 16 refl
+
+pub record Lanes (v : ℕ) : Type 0 where
+  pub whole : 16 ∣ v
+  pub least : 16 ≤ v
+  pub most : v ≤ 64
+
+pub width-lanes : (w : Width) → Lanes (widthBytes w)
+width-lanes Bits128 = record { whole = dvd-of-mod-eq-zero 16 refl; least = lit≤ tt; most = lit≤ tt }
+width-lanes Bits256 = record { whole = dvd-of-mod-eq-zero 16 refl; least = lit≤ tt; most = lit≤ tt }
+width-lanes Bits512 = record { whole = dvd-of-mod-eq-zero 16 refl; least = lit≤ tt; most = lit≤ tt }
+
+module _ (n : ℕ) (d : n ∣ 16) where
+  pub some-bytes : 0 < n
+  some-bytes = pos-of-dvd-of-pos d (omega arith)
+
+  pub most-bytes : n ≤ 16
+  most-bytes = le-of-dvd (omega arith) d
+
+  module _ (v : ℕ) (l : Lanes v) where
+    -- a width is whole elements, at least one
+    pub divides-width : n ∣ v
+    divides-width = dvd-trans n d (l .whole)
+
+    pub some-elements : 0 < v / n
+    some-elements = le-div-iff-mul-le some-bytes .1 (omega (arith, most-bytes, l .least))
+
+    width-is : n * (v / n) ≡ v
+    width-is = mul-div-cancel' n divides-width
+
+    -- a byte from the width on is in an element that starts there, or above
+    pub starts-above : (i : ℕ) → v ≤ i → v ≤ n * (i / n)
+    starts-above i h =
+        let e : v / n * n ≤ i = rw (div-mul-cancel n divides-width) h in
+        omega (arith, width-is, mul-le-mul-left n (le-div-iff-mul-le some-bytes .1 e))
+
+    -- an element that starts below the width is one of its elements
+    pub starts-below : (j : ℕ) → n * j < v → j < v / n
+    starts-below j h = lt-of-mul-lt-mul-left n (omega (arith, width-is))
