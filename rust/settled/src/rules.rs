@@ -1,0 +1,41 @@
+//! The rules that explain why an answer is no longer the base's.
+
+use crate::answer::Answer;
+use crate::input::Input;
+
+/// One reason of a change request for another answer.
+pub struct Rule {
+    /// The number of the request.
+    pub request: u32,
+    /// What the request says, in a few words.
+    pub name: &'static str,
+    /// Whether the request's words turn the old answer to this input into the new one.
+    pub explains: fn(input: &Input, old: &Answer, new: &Answer) -> bool,
+}
+
+/// The rules of the requests that have landed, in their order.
+///
+/// To add one, write a predicate from the request's words, and not from what the library gives:
+/// which inputs are meant, what they answered before, and what they have to answer now. Say that a
+/// request 99 makes decoding refuse more than 15 bytes with 8:
+///
+/// ```text
+/// Rule {
+///     request: 99,
+///     name: "decoding refuses more than 15 bytes",
+///     explains: |input, _, new| match input {
+///         Input::Decode(input) => input.code.len() > 15 && *new == refused_decoding(8),
+///         _ => false,
+///     },
+/// },
+/// ```
+///
+/// - A rule that takes any new answer shows nothing. Status, numbers and digest have to be what
+///   the request says: here `refused_decoding` has length 0 and the digest of a status and 13
+///   zeros. Where a refusal leaves a buffer alone, the digest is that of the room's `whole`; where
+///   the request says what a buffer holds, [`Room::call`](crate::room::Room::call) with a function
+///   that writes it gives the digest.
+/// - A difference counts for the first rule of this list that explains it. Where two requests
+///   together make an answer what it is, the later one's rule says so.
+/// - A rule for which no difference is left fails the test: it is wrong, or is not needed.
+pub const RULES: &[Rule] = &[];
