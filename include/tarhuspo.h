@@ -7,7 +7,10 @@
  * Symbols that it takes from outside: memcpy.
  *
  * For every caller:
- *  - A pointer must not be null, also where its length is 0, and must be valid for that length.
+ *  - Each _len counts elements of its pointer's type: bytes for uint8_t, masks for uint64_t, map
+ *    entries for uint16_t. It never counts bits, nor the bytes that masks or entries take.
+ *  - A pointer must not be null, also where its length is 0, must be aligned for its type, and must
+ *    be valid for that length.
  *  - A buffer that a call writes to must not overlap another one of that call. Those that are only
  *    read may. Nothing else may write to any of them during the call.
  *  - Nothing else is asked. Every content and every length is allowed and has a defined answer.
@@ -23,6 +26,14 @@
 #ifdef __cplusplus
 extern "C" {
 #endif
+
+/*
+ * The version. MAJOR moves when a caller's source or stored answers can break: a struct's layout, a
+ * size or limit, an answer that changes for some input. MINOR moves when something is only added: a
+ * function, a constant, an instruction that status 3 refused before.
+ */
+#define TARHUSPO_VERSION_MAJOR 1
+#define TARHUSPO_VERSION_MINOR 0
 
 /* Processor features: add those that the processor has. */
 #define TARHUSPO_AVX UINT32_C(1)
@@ -157,8 +168,8 @@ tarhuspo_ran tarhuspo_run(const uint8_t *code, size_t code_len, uint8_t *file, s
  *
  *  1  map_len is not 2048, masks_len is not 8, or features is over 31.
  *  8  code_len is over 4096.
- *  2 to 5, 7  The instruction at place is refused: 2 to 5 as tarhuspo_decode, then 7 if it has a
- *     memory operand or takes its control from a register (VPERMB, and VPERMILPD without an
+ *  2 to 5, 7  The instruction at place is refused: 2 to 5 as tarhuspo_decode, then 7 for a memory
+ *     form, and for one whose control is in a register (VPERMB, and VPERMILPD without an
  *     immediate).
  */
 typedef struct {
@@ -180,8 +191,8 @@ tarhuspo_built tarhuspo_bytemap_build(const uint8_t *code, size_t code_len, cons
                                       size_t map_len);
 
 /*
- * Replaces byte i of the register file by the byte that was at the place that entry i names, or by
- * 0 for an entry of 2048. Any map may be applied, built or not.
+ * Replaces byte i of the register file by the byte that stood at place map[i] before the call, or
+ * by 0 if map[i] is 2048. Any map may be applied, built or not.
  *
  * Gives 0, or the first of these that applies, and then nothing is changed:
  *

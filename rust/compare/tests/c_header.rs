@@ -1,15 +1,26 @@
-//! The C header compiles as C and as C++, and has the layout that the archive was compiled for.
+//! The C header compiles as C and as C++, has the layout that the archive was compiled for, and has
+//! the constants of the Rust wrapper.
 
 #[path = "c/compiler.rs"]
 mod compiler;
 
-use compiler::{compile, printed, INCLUDE};
+use compiler::{compile, INCLUDE};
 use std::path::{Path, PathBuf};
+use tarhuspo::{features, limits, version};
+
+fn header() -> PathBuf {
+    Path::new(INCLUDE).join("tarhuspo.h")
+}
+
+/// What one of the programs in tests/c prints.
+fn printed(source: &str, name: &str) -> String {
+    let folder = Path::new(env!("CARGO_MANIFEST_DIR")).join("tests/c");
+    compiler::printed(&folder.join(source), name)
+}
 
 #[test]
 fn c_program_runs_against_the_archive() {
-    let source = Path::new(env!("CARGO_MANIFEST_DIR")).join("tests/c/header.c");
-    let printed = printed(&source, "c_header");
+    let printed = printed("header.c", "c_header");
     let expected = "accepted: 0 6 8 1 256 1 17 9 0 3 1 1 0 0\n\
                     too short: 2 0 0 0 0 0 0 0 0 0 0 0 0 0\n\
                     empty: 2 0 0 0 0 0 0 0 0 0 0 0 0 0\n\
@@ -32,9 +43,45 @@ fn c_program_runs_against_the_archive() {
     assert_eq!(printed, expected);
 }
 
+/// The constants of the Rust wrapper, under the names that the header gives them.
+const CONSTANTS: [(&str, u64); 14] = [
+    ("VERSION_MAJOR", version::MAJOR as u64),
+    ("VERSION_MINOR", version::MINOR as u64),
+    ("AVX", features::AVX as u64),
+    ("AVX2", features::AVX2 as u64),
+    ("AVX512F", features::AVX512F as u64),
+    ("AVX512VL", features::AVX512VL as u64),
+    ("AVX512_VBMI", features::AVX512_VBMI as u64),
+    ("FILE_SIZE", limits::FILE_SIZE as u64),
+    ("MASK_COUNT", limits::MASK_COUNT as u64),
+    ("MAP_SIZE", limits::MAP_SIZE as u64),
+    ("MAP_ZERO", limits::MAP_ZERO as u64),
+    ("CODE_LIMIT", limits::CODE_LIMIT as u64),
+    ("MOST_STEPS", limits::MOST_STEPS),
+    ("TEXT_SIZE", limits::TEXT_SIZE as u64),
+];
+
+#[test]
+fn constants_are_those_of_the_wrapper() {
+    let lines = CONSTANTS.map(|(name, value)| format!("{name} {value}\n"));
+    assert_eq!(printed("constants.c", "c_constants"), lines.concat());
+}
+
+/// None is left out above.
+#[test]
+fn constants_are_all_compared() {
+    let header = std::fs::read_to_string(header()).expect("the header");
+    let defined = header
+        .lines()
+        .filter_map(|line| line.strip_prefix("#define TARHUSPO_"));
+    let defined = defined.filter_map(|rest| rest.split_once(' '));
+    let names: Vec<_> = defined.map(|(name, _)| name).collect();
+    assert_eq!(names, CONSTANTS.map(|(name, _)| name));
+}
+
 #[test]
 fn header_is_valid_cpp() {
-    let header: PathBuf = [INCLUDE, "tarhuspo.h"].iter().collect();
+    let header = header();
     compile(
         "c++",
         &[

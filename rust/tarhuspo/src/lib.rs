@@ -22,6 +22,7 @@ mod mnemonic;
 mod run;
 mod status;
 mod step;
+pub mod version;
 
 pub use bytemap::{bytemap_apply, bytemap_build, bytemap_compose, Built};
 pub use decode::{decode, Decoded};
