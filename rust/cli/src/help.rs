@@ -4,6 +4,7 @@ use crate::answer::{Answer, Failure};
 use crate::options::expected;
 use crate::{audit, compare, decode, list, map, run};
 use std::ffi::OsString;
+use tarhuspo::version::{MAJOR, MINOR};
 
 pub struct Command {
     pub name: &'static str,
@@ -70,6 +71,14 @@ pub fn asked(words: &[OsString]) -> Result<Answer, Failure> {
     }
 }
 
+/// The answer to `tarhuspo --version`.
+pub fn version(words: &[OsString]) -> Result<Answer, Failure> {
+    match words {
+        [] => Ok(Answer::text(format!("tarhuspo {MAJOR}.{MINOR}\n"))),
+        _ => Err("expected nothing after '--version'".into()),
+    }
+}
+
 pub fn unknown(given: &str) -> String {
     let names: Vec<_> = COMMANDS.iter().map(|command| command.name).collect();
     expected(&format!("a command ({} or help)", names.join(", ")), given)
@@ -80,13 +89,14 @@ tarhuspo: AVX permute instructions in software, by the proved library
 
 usage: tarhuspo COMMAND ..
 
-  list      the instructions of a list, a line for each
-  decode    one instruction in words
-  run       a list of instructions on a register file
-  map       byte maps: what a list does to every register file
-  compare   whether lists of instructions do the same
-  audit     the library against this machine's processor
-  help      this text; tarhuspo help COMMAND or tarhuspo COMMAND --help says more
+  list       the instructions of a list, a line for each
+  decode     one instruction in words
+  run        a list of instructions on a register file
+  map        byte maps: what a list does to every register file
+  compare    whether lists of instructions do the same
+  audit      the library against this machine's processor
+  help       this text; tarhuspo help COMMAND or COMMAND --help says more
+  --version  the version of the library, as in its C header
 
 example: tarhuspo decode 62 F1 7D C9 70 CA 1B
 

@@ -51,6 +51,9 @@ fn answer(words: &[OsString]) -> Result<Answer, Failure> {
     if matches!(first, "--help" | "-h" | "help") {
         return help::asked(rest);
     }
+    if first == "--version" {
+        return help::version(rest);
+    }
     let command = Command::named(first).ok_or_else(|| help::unknown(first))?;
     if options::asks_for_help(rest) {
         return Ok(Answer::text(command.help()));

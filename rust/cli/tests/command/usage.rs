@@ -21,6 +21,20 @@ fn overview_is_printed_when_asked_for_and_when_nothing_is() {
 }
 
 #[test]
+fn version_is_the_librarys() {
+    let (major, minor) = (tarhuspo::version::MAJOR, tarhuspo::version::MINOR);
+    assert_eq!(
+        printed(&["--version"]),
+        format!("tarhuspo {major}.{minor}\n")
+    );
+    assert!(printed(&["--help"]).contains("\n  --version "));
+    assert_bad_usage(&["--version", "run"], "expected nothing after '--version'");
+    // It belongs to no command.
+    let option = "expected no option but --hex, not '--version'";
+    assert_bad_usage(&["list", "--version"], option);
+}
+
+#[test]
 fn each_command_has_help() {
     for command in COMMANDS {
         let help = printed(&["help", command]);
