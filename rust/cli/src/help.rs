@@ -161,7 +161,7 @@ exit status: 0 accepted, 1 refused, 2 bad usage
 
 const RUN: &str = "\
 usage: tarhuspo run CODE [--hex] [--registers FILE] [--masks FILE]
-                    [--features LIST] [--budget N] [--out FILE]
+                    [--features LIST] [--budget N] [--out FILE [--keep-steps]]
 
 Carries out the instructions of CODE. Prints how many (steps), where the next or
 the refused one starts (place), the status (answer), and the registers that
@@ -172,14 +172,16 @@ changed, with the numbers of the changed bytes.
   --budget N       the most instructions to carry out; 1,024 if not given, which
                    is enough for every list
   --out FILE       where the registers go afterwards, 2,048 bytes; written only
-                   if the answer is 0
+                   if the answer is 0, or with --keep-steps
+  --keep-steps     writes --out after a refusal too: the registers as they are
+                   after the steps that were carried out
 ";
 
 const RUN_END: &str = "
 example: tarhuspo run hex:C5F970CA1B --registers before.bin --out after.bin
 
-exit status: 0 the end was reached or the budget was spent, 1 refused, 2 bad
-usage, or a file that cannot be read or written
+exit status: 0 the end was reached or the budget was spent; 1 refused, also with
+--keep-steps; 2 bad usage, or a file that cannot be read or written
 ";
 
 const MAP: &str = "\

@@ -5,19 +5,18 @@ use crate::features;
 use crate::input::{note_masks, Inputs};
 use crate::options::{Known, Options, FEATURES, HEX, MASKS, OUT, REGISTERS};
 use crate::places::{range, REGISTER_SIZE};
-use std::ffi::OsString;
+use std::ffi::{OsStr, OsString};
+use std::path::PathBuf;
 use tarhuspo::limits::{FILE_SIZE, MOST_STEPS};
 use tarhuspo::{describe, Ran};
 
 const BUDGET: Known = Known::with("--budget", "a number of steps");
-const OPTIONS: [Known; 6] = [HEX, REGISTERS, MASKS, FEATURES, BUDGET, OUT];
+const KEEP_STEPS: Known = Known::flag("--keep-steps");
+const OPTIONS: [Known; 7] = [HEX, REGISTERS, MASKS, FEATURES, BUDGET, OUT, KEEP_STEPS];
 
 pub fn run(words: &[OsString]) -> Result<Answer, Failure> {
     let options = Options::parse(words, &OPTIONS)?;
-    let out = options.value(&OUT);
-    if out.is_some_and(|path| path == "-") {
-        return Err("expected a file name after --out: standard output has the report".into());
-    }
+    let out = Out::given(&options)?;
     let mut inputs = Inputs::new(&options);
     let code = inputs.code(options.only("one list of instructions")?)?;
     let before = match options.value(&REGISTERS) {
@@ -31,13 +30,54 @@ pub fn run(words: &[OsString]) -> Result<Answer, Failure> {
 
     let mut file = before.clone();
     let ran = tarhuspo::run(&code, &mut file, &masks, features, budget);
-    let mut answer = Answer::text(report(&ran, code.len(), &before, &file));
-    match out {
-        Some(path) if ran.status == 0 => answer.file = Some((path.into(), file)),
-        Some(_) => answer.text.extend(b"out:     not written\n"),
-        None => {}
+    let text = report(&ran, code.len(), &before, &file);
+    let (line, file) = match out {
+        Some(out) => (out.line(&ran), out.file(&ran, file)),
+        None => (String::new(), None),
+    };
+    Ok(Answer {
+        file,
+        ..Answer::text(text + &line).refused_if(ran.status != 0)
+    })
+}
+
+/// Where the registers go afterwards.
+struct Out<'a> {
+    path: &'a OsStr,
+    /// Also if a step is refused.
+    keeps_steps: bool,
+}
+
+impl<'a> Out<'a> {
+    fn given(options: &Options<'a>) -> Result<Option<Out<'a>>, String> {
+        let keeps_steps = options.has(&KEEP_STEPS);
+        match options.value(&OUT) {
+            Some(path) if path == "-" => {
+                Err("expected a file name after --out: standard output has the report".to_string())
+            }
+            // Otherwise the steps that are to be kept would be lost.
+            None if keeps_steps => {
+                Err("expected --out FILE with --keep-steps, to keep them in".to_string())
+            }
+            path => Ok(path.map(|path| Out { path, keeps_steps })),
+        }
     }
-    Ok(answer.refused_if(ran.status != 0))
+
+    /// What a refused run says about the file.
+    fn line(&self, ran: &Ran) -> String {
+        let plural = if ran.steps == 1 { "" } else { "s" };
+        let registers = format!("the registers after {} step{plural}", ran.steps);
+        match (ran.status, self.keeps_steps) {
+            (0, _) => String::new(),
+            (_, true) => format!("out:     holds {registers}\n"),
+            (_, false) => format!("out:     not written; --keep-steps would write {registers}\n"),
+        }
+    }
+
+    fn file(&self, ran: &Ran, registers: Vec<u8>) -> Option<(PathBuf, Vec<u8>)> {
+        let is_written = ran.status == 0 || self.keeps_steps;
+        is_written.then(|| (self.path.into(), registers))
+    }
 }
 
 fn report(ran: &Ran, length: usize, before: &[u8], after: &[u8]) -> String {

@@ -4,6 +4,9 @@ use crate::tools::{assert_bad_usage, printed, registers, run, run_with_input, Fo
 
 /// vunpcklps xmm1, xmm2, xmm3; vpshufd xmm17, xmm26, 0xe4
 const LIST: &str = "hex:C5E814CB 62817D0870CAE4";
+const LIST_BYTES: [u8; 11] = [
+    0xC5, 0xE8, 0x14, 0xCB, 0x62, 0x81, 0x7D, 0x08, 0x70, 0xCA, 0xE4,
+];
 
 fn report(steps: u64, place: &str, answer: &str, changed: &str) -> String {
     format!("steps:   {steps}\nplace:   {place}\nanswer:  {answer}\nchanged: {changed}\n")
@@ -100,19 +103,130 @@ fn masks_and_features_count() {
     assert_eq!(out, report(0, "0 of 7", &refusal(5), "none"));
 }
 
+/// vunpcklps xmm1, xmm2, xmm3; vpshufd xmm1, [rax], 0x1b, which a run refuses with 6
+const REFUSED: &str = "hex:C5E814CB C5F97008 1B";
+
+fn refused_report() -> String {
+    report(1, "4 of 9", &refusal(6), "zmm1 (bytes 0..63)")
+}
+
 #[test]
-fn a_refusal_keeps_the_steps_done_and_writes_no_file() {
+fn a_refused_run_writes_no_file_and_says_how_to_get_one() {
     let folder = Folder::new("run_refused");
     let before = folder.write("before.bin", registers());
     let after = folder.write("after.bin", "as before");
-    let code = "hex:C5E814CB C5F97008 1B";
-    let (status, out, err) = run(&["run", code, "--registers", &before, "--out", &after]);
+    let (status, out, err) = run(&["run", REFUSED, "--registers", &before, "--out", &after]);
     assert_eq!((status, err.as_str()), (Some(1), ""));
-    let expected = report(1, "4 of 9", &refusal(6), "zmm1 (bytes 0..63)");
-    assert_eq!(out, expected + "out:     not written\n");
+    let line = "out:     not written; --keep-steps would write the registers after 1 step\n";
+    assert_eq!(out, refused_report() + line);
     assert_eq!(folder.read("after.bin"), b"as before");
     assert_eq!(folder.names(), ["after.bin", "before.bin"]);
 
+    let (status, out, _) = run(&["run", REFUSED, "--registers", &before]);
+    assert_eq!((status, out), (Some(1), refused_report()));
+    assert_eq!(folder.names(), ["after.bin", "before.bin"]);
+}
+
+#[test]
+fn a_refused_run_keeps_its_steps_when_asked_to() {
+    let folder = Folder::new("run_kept");
+    let before = folder.write("before.bin", registers());
+    let after = folder.write("after.bin", "as before");
+    let rest = ["--registers", &before, "--keep-steps", "--out", &after];
+    let (status, out, err) = run(&[&["run", REFUSED], &rest[..]].concat());
+    assert_eq!((status, err.as_str()), (Some(1), ""));
+    let line = "out:     holds the registers after 1 step\n";
+    assert_eq!(out, refused_report() + line);
+    // What the accepted instruction alone leaves.
+    let expected = library_file(&LIST_BYTES[..4], [0; 8], 31);
+    assert_ne!(expected, registers());
+    assert_eq!(folder.read("after.bin"), expected);
+    assert_eq!(folder.names(), ["after.bin", "before.bin"]);
+
+    // Two steps, and then bytes that end too soon.
+    let code = format!("{LIST} C5F970");
+    let (status, out, _) = run(&[&["run", &code], &rest[..]].concat());
+    assert_eq!(status, Some(1));
+    let line = "\nout:     holds the registers after 2 steps\n";
+    assert!(out.ends_with(line), "{out}");
+    assert_eq!(
+        folder.read("after.bin"),
+        library_file(&LIST_BYTES, [0; 8], 31)
+    );
+}
+
+/// With no step done, the file is the start, whatever the run is refused for.
+#[test]
+fn a_run_refused_at_once_keeps_the_start() {
+    let folder = Folder::new("run_kept_start");
+    let before = folder.write("before.bin", registers());
+    let after = folder.path("after.bin");
+    let long = folder.write("long.bin", [0xC5; 4_097]);
+    for (code, features, place, status) in [
+        ("hex:C5F97008 1B C5E814CB", "31", "0 of 9", 6),
+        ("hex:90", "31", "0 of 1", 3),
+        ("hex:C5E814CB", "32", "0 of 4", 1),
+        (&long, "31", "0 of 4097", 8),
+    ] {
+        let given = ["run", code, "--features", features, "--registers", &before];
+        let arguments = [&given[..], &["--out", &after]].concat();
+        let (ended, out, _) = run(&arguments);
+        assert_eq!(ended, Some(1), "{code}");
+        let expected = report(0, place, &refusal(status), "none");
+        let line = "out:     not written; --keep-steps would write the registers after 0 steps\n";
+        assert_eq!(out, expected.clone() + line);
+        assert_eq!(folder.names(), ["before.bin", "long.bin"]);
+
+        let (ended, out, _) = run(&[&arguments[..], &["--keep-steps"]].concat());
+        assert_eq!(ended, Some(1), "{code}");
+        assert_eq!(
+            out,
+            expected + "out:     holds the registers after 0 steps\n"
+        );
+        assert_eq!(folder.read("after.bin"), registers(), "{code}");
+        std::fs::remove_file(&after).expect("the file is there");
+    }
+}
+
+/// The flag is for refusals: a run that ends well says and writes what it does without.
+#[test]
+fn a_run_that_ends_well_needs_no_flag() {
+    let folder = Folder::new("run_kept_well");
+    let before = folder.write("before.bin", registers());
+    let [without, with] = ["without.bin", "with.bin"].map(|name| folder.path(name));
+    for budget in ["0", "1", "1024"] {
+        let given = ["run", LIST, "--budget", budget, "--registers", &before];
+        let out = printed(&[&given[..], &["--out", &without]].concat());
+        let kept = printed(&[&given[..], &["--out", &with, "--keep-steps"]].concat());
+        assert_eq!(out, kept, "budget {budget}");
+        assert!(!out.contains("out:"), "{out}");
+        assert_eq!(folder.read("without.bin"), folder.read("with.bin"));
+    }
+    assert_eq!(
+        folder.read("with.bin"),
+        library_file(&LIST_BYTES, [0; 8], 31)
+    );
+}
+
+#[test]
+fn steps_are_kept_in_a_file_alone() {
+    let message = "expected --out FILE with --keep-steps, to keep them in";
+    for code in [LIST, REFUSED] {
+        assert_bad_usage(&["run", code, "--keep-steps"], message);
+    }
+    let message = "expected a file name after --out: standard output has the report";
+    assert_bad_usage(&["run", REFUSED, "--keep-steps", "--out", "-"], message);
+    let value = "expected --keep-steps without a value";
+    assert_bad_usage(&["run", REFUSED, "--keep-steps=yes", "--out", "x"], value);
+    let twice = "expected --keep-steps only once";
+    assert_bad_usage(&["run", REFUSED, "--keep-steps", "--keep-steps"], twice);
+}
+
+/// A run of the wrong size or features has no steps, also with a budget of 0.
+#[test]
+fn refusals_of_a_whole_run() {
+    let folder = Folder::new("run_whole");
+    let before = folder.write("before.bin", registers());
     let code = folder.write("long.bin", [0xC5; 4_097]);
     let (status, out, _) = run(&["run", &code, "--budget", "0", "--registers", &before]);
     assert_eq!(status, Some(1));
@@ -178,7 +292,7 @@ fn bad_usage_is_one_line() {
     assert_bad_usage(&["run"], "expected one list of instructions");
     let twice = "expected one list of instructions, and not 'b' as well";
     assert_bad_usage(&["run", "a", "b"], twice);
-    let options = "--hex, --registers, --masks, --features, --budget, --out";
+    let options = "--hex, --registers, --masks, --features, --budget, --out, --keep-steps";
     assert_bad_usage(
         &["run", LIST, "--register", "x"],
         &format!("expected an option among {options}, not '--register'"),
