@@ -1,10 +1,10 @@
 #!/usr/bin/env python3
 """The expected output of the program `cases` (crates/cases/stdout), worked out without the library.
 
-Each line of document 01's table "Bytes tried at the bench" has its answer, length, memory and destination bytes
-written here by hand, from that document's rules for the instruction: there is no decoder. From the repository's
-top, `python3 docs/cases.py > crates/cases/stdout` writes the file, and `rt check cases` compares it with what the
-program writes.
+Each line of document 01's table of cases has its answer, length, memory and destination bytes written here by
+hand, from that document's rules for the instruction: there is no decoder. From the repository's top, `python3
+docs/cases.py > crates/cases/stdout` writes the file. `.ci/run` compares the file with what this prints, and `rt check
+cases` with what the program prints.
 """
 
 REGISTERS, BYTES = 32, 64

@@ -1,4 +1,4 @@
-//! The line counts in docs/READING.md are those of the files today.
+//! The line counts in docs/READING.md are those of the files.
 
 use std::fs;
 use std::path::{Path, PathBuf};

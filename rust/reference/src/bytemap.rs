@@ -1,4 +1,4 @@
-//! Byte maps (document 01: route sheets; "Lists, sheets, listing").
+//! Byte maps (document 01: route sheets).
 
 use crate::decode::{parse, Third};
 use crate::limits::{check_code, check_masks, FILE_SIZE, MAP_SIZE, MAP_ZERO};

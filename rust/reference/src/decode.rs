@@ -1,5 +1,5 @@
-//! Decoding one instruction (document 01, "Prefix bytes", "The instruction table" and
-//! "When the handler says no").
+//! Decoding one instruction: document 01's prefix layouts, its instruction table, and the order of
+//! its refusals.
 
 use crate::limits::{check_features, feature};
 use crate::prefix::{Encoding, Prefix};
@@ -28,7 +28,7 @@ pub struct Decoded {
 /// The reserved fields of answer 4, in the order they are looked at.
 #[derive(Debug, Clone, Copy, PartialEq, Eq, PartialOrd, Ord)]
 pub enum Field {
-    /// EVEX P bits 3:2 or Q bit 2.
+    /// Under EVEX: bits 3:2 of P, and bit 2 of Q.
     FixedBits,
     W,
     /// EVEX width 3, or VPERM2F128 with L 0.

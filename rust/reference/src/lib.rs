@@ -1,8 +1,8 @@
-//! Independent reference for the permute handler.
+//! Independent reference for the proved library.
 //!
-//! Written from document 01 and the manual pages alone, so that its answers can be compared with
-//! those of the proved library. The modules follow the order of document 01. Every function takes
-//! buffers of any length and content; a refusal is a status number and changes no byte.
+//! Written from document 01 and the manual pages alone, so that the answers of the two can be
+//! compared. The modules follow the order of document 01. Every function takes buffers of any
+//! length and content; a refusal is a status number and changes no byte.
 
 #![forbid(unsafe_code)]
 

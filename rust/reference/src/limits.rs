@@ -1,4 +1,4 @@
-//! Sizes and feature bits (document 01, "The handler's trade").
+//! Sizes and feature bits, and the refusals of wrong ones.
 
 use crate::refusal::Refusal;
 

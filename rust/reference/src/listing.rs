@@ -1,4 +1,4 @@
-//! The listing of a list (document 01, "Lists, sheets, listing").
+//! The listing of a list.
 
 use crate::decode::{parse, Instruction};
 use crate::limits::{check_code, feature, TEXT_SIZE};

@@ -1,4 +1,4 @@
-//! The numbered refusals (document 01, "When the handler says no").
+//! The refusals, with document 01's numbers.
 
 use crate::decode::Field;
 
@@ -23,7 +23,7 @@ pub(crate) enum Refusal {
     Unmappable,
     /// The list is too long.
     CodeLimit,
-    /// A byte map to be read has an entry over 2,048.
+    /// An entry of a byte map that is read is above 2,048.
     MapEntry,
 }
 

@@ -1,10 +1,10 @@
-//! Running a list (document 01, "Lists, sheets, listing").
+//! Running a list, with a budget.
 
 use crate::limits::{check_code, check_state};
 use crate::refusal::{Refusal, DONE};
 use crate::step::step;
 
-/// Steps done, where the next or refused step starts, and the answer.
+/// How many steps were done, the place of the next or the refused one, and the answer.
 #[derive(Debug, Clone, Copy, PartialEq, Eq, Default)]
 pub struct Ran {
     pub steps: u64,

@@ -24,8 +24,8 @@ const _: () = assert!(size_of::<Ran>() == 24 && align_of::<Ran>() == 8);
 /// so a memory form is refused with status 6. `code` has at most 4,096 bytes.
 ///
 /// A run ends at the end of the code, at an instruction that is refused, or when the budget is
-/// spent. The instructions before that have been carried out. A budget of 1,024 always reaches the
-/// end or a refusal.
+/// spent. The instructions before that have been carried out. No list needs a larger budget than
+/// 1,024.
 ///
 /// ```
 /// use tarhuspo::limits::{FILE_SIZE, MASK_COUNT};

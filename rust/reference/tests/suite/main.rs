@@ -1,8 +1,8 @@
 //! Tests of the reference against document 01 and the manual pages.
 
 mod any_input;
-mod bench_table;
 mod bytemaps;
+mod case_table;
 mod encodings;
 mod listings;
 mod manual;

@@ -126,7 +126,7 @@ fn operate(sample: &Sample, first: &Register, third: &Register) -> Register {
     result
 }
 
-/// Page 001: id <- SRC1[j*8+n:j*8], with n of 3, 4, 5.
+/// Page 001: bits n:0 of byte j of SRC1 are the index, with n of 3, 4, 5.
 fn vpermb(sample: &Sample, first: &Register, third: &Register) -> Register {
     let n = 3 + usize::from(sample.width);
     let mut result = Register([0; 64]);

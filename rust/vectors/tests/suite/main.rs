@@ -6,7 +6,7 @@ mod stored;
 use std::sync::OnceLock;
 use vectors::Vectors;
 
-/// What the reference gives today, made once for all tests.
+/// What the reference gives, made once for all tests.
 fn vectors() -> &'static Vectors {
     static VECTORS: OnceLock<Vectors> = OnceLock::new();
     VECTORS.get_or_init(Vectors::generate)

@@ -1,4 +1,4 @@
-//! What is stored is what the reference gives today, and a stored file that is not is found.
+//! What is stored is what the reference gives, and a stored file that is not is found.
 
 use crate::vectors;
 use std::path::{Path, PathBuf};

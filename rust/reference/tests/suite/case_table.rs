@@ -1,4 +1,4 @@
-//! Every row of document 01's table "Bytes tried at the bench".
+//! Every row of document 01's table of cases.
 
 use crate::support::{check_step, check_step_on, padded, picked, register, varied_file, ALL, OPEN};
 use reference::{decode, reserved_field, step, Decoded, Field, Stepped};
