@@ -4,3 +4,4 @@ pub mod Sizes
 mod Grid
 mod Search
 pub mod Rule
+pub mod Columns

@@ -4,3 +4,4 @@ pub mod Features
 pub mod Refusal
 pub mod Operands
 pub mod Table
+pub mod Facts

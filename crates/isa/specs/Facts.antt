@@ -1,0 +1,69 @@
+-- Sentences of the rules that speak of the whole table. Each is a test of a row, and every row passes it.
+use Prim.Native.Nat.{ℕ, _*_, _^_}
+use mathlib.Core.Path.{_≡_, refl}
+use mathlib.Core.Bool.{Bool, true, not}
+use mathlib.Core.List.{List, [], _∷_}
+use lib.Dec.{eqb}
+use Rattle.seq.specs.Choice.{if_then_else_, both, either}
+use Rattle.isa.specs.Features.{AVX, AVX2, AVX512F, AVX512VBMI}
+use Rattle.isa.specs.Operands.{mnemonicNumber, underVex, underEvex, widthOf, widthBytes, moveKind, controlNumber}
+use Rattle.isa.specs.Table.{W0, W1, anyW, from128, from256, rows}
+use Rattle.isa.specs.declared.operands.Mnemonic.{Mnemonic}
+use Rattle.isa.specs.declared.operands.Mnemonic.the-variants.{Vpermilpd, Vpermb, Vunpcklps, Vpshufd, Vperm2f128}
+use Rattle.isa.specs.declared.operands.Control.{Control}
+use Rattle.isa.specs.declared.table.Row.{Row}
+
+abbrev pub every : (Row → Bool) → List Row → Bool
+every fact [] = true
+every fact (row ∷ more) = both (fact row) (every fact more)
+
+abbrev pub named : Mnemonic → Row → Bool
+named name row = eqb (row .mnemonic) (mnemonicNumber name)
+
+-- rule 3.5: VEX needs AVX, but AVX2 for VPSHUFD of 256 bits; EVEX needs AVX512F, but AVX512_VBMI for VPERMB
+abbrev pub needed : Row → Bool
+needed row =
+    if eqb (row .encoding) underVex then both (eqb (row .needs) AVX) (eqb (row .needs256) (if named Vpshufd row then AVX2 else AVX))
+    else both (eqb (row .needs) (if named Vpermb row then AVX512VBMI else AVX512F)) (eqb (row .needs256) (row .needs))
+
+-- table 3.1: under EVEX the quadword rows have W 1 and the others W 0; under VEX, W is 0 or counts for nothing
+abbrev pub wide : Row → Bool
+wide row =
+    if eqb (row .encoding) underEvex then eqb (row .w) (if eqb (row .element) 8 then W1 else W0)
+    else eqb (row .w) (if either (named Vunpcklps row) (named Vpshufd row) then anyW else W0)
+
+-- rule 5.7: VPERM2F128 alone has no 128 bits
+abbrev pub narrow : Row → Bool
+narrow row = eqb (row .least) (if named Vperm2f128 row then from256 else from128)
+
+-- rule 3.7: every EVEX row but VPERMB's can repeat an element, and no VEX row
+abbrev pub repeats : Row → Bool
+repeats row = eqb (row .broadcast) (if both (eqb (row .encoding) underEvex) (not (named Vpermb row)) then 1 else 0)
+
+-- rule 3.6: of the rows with an immediate, VPERM2F128 alone has a first source; every other row has one
+abbrev pub sourced : Row → Bool
+sourced row = eqb (row .first) (if both (eqb (row .immediate) 1) (not (named Vperm2f128 row)) then 0 else 1)
+
+-- rule 4.5: an immediate is the control where there is one. Else VPERMB's control is in its first source, VPERMILPD's in the third operand
+abbrev pub controlled : Row → Bool
+controlled row =
+    eqb (row .control)
+    (if eqb (row .immediate) 1 then controlNumber Control.Immediate
+    else if named Vpermb row then controlNumber Control.First
+    else if named Vpermilpd row then controlNumber Control.Third
+    else controlNumber Control.Nowhere)
+
+-- rules 4.6 and 4.7: digits of b bits name the elements of a lane, so that 2 ^ b elements are one; of a control in a register, bit 1 is the first
+-- that counts for quadwords
+abbrev pub digits : Row → Bool
+digits row =
+    if eqb (row .kind) 1 then eqb (2 ^ (row .bits) * row .element) (widthBytes (widthOf (row .group)))
+    else if eqb (row .kind) 2 then eqb (2 ^ (row .bits) * 4) (row .element)
+    else true
+
+abbrev pub facts : Row → Bool
+facts row = both (needed row) (both (wide row) (both (narrow row) (both (repeats row) (both (sourced row) (both (controlled row) (digits row))))))
+
+pub every-row : every facts rows ≡ true
+unfolding rows widthOf
+every-row = refl
