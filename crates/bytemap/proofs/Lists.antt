@@ -2,7 +2,7 @@
 use Prim.Native.Nat.{ℕ, zero, suc, _+_, _-_, _*_, _≤_}
 use mathlib.Core.Path.{_≡_, refl, sym, _∙_, ap}
 use mathlib.Core.Bool.{Bool, true, false}
-use mathlib.Core.List.{List, _++_}
+use mathlib.Core.List.{List, [], _++_}
 use native.Mathlib.Omega.{arith}
 use lib.Dec.{eqb}
 use lib.ListN.{length, drop, length-append}
@@ -17,7 +17,7 @@ use Rattle.decode.specs.Instruction.{wantedOf}
 use Rattle.decode.specs.declared.instruction.Third.{Third}
 use Rattle.decode.specs.declared.instruction.Instruction.{Instruction}
 use Rattle.moves.specs.Mappable.{inInstruction, inRegister, mappable}
-use Rattle.run.specs.Split.{Split, followed, split}
+use Rattle.run.specs.Split.{Split, stopped, followed, split}
 use Rattle.run.specs.Run.{withoutMemory}
 use Rattle.run.proofs.Splits.{First, nothing, refused, goes, first, joined, empty-cut, zero-cut, next-cut, enough, settled, followed-by, no-done}
 use Rattle.run.specs.declared.Answer.{Answer}
@@ -67,6 +67,11 @@ module _ (features : ℕ) where
       by (nothing q) ih = rw (empty-cut mappable Unmappable features (suc k) code q) tt
       by (refused r f) ih = rw (f k) tt
       by (goes x d w f) ih = rw (f k) (w, ih (drop (x .length) code))
+
+  -- the empty list has no step
+  pub empty-split : buildSplit [] features ≡ stopped Answer.Done
+  unfolding buildSplit
+  empty-split = zero-cut mappable Unmappable features []
 
   -- an accepted list is split to its end
   pub whole : (code : List ℕ) → buildSplit code features .answer ≡ Answer.Done → buildSplit code features .place ≡ length code

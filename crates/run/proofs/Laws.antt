@@ -1,4 +1,5 @@
--- The laws of runs: how many steps there are, which budget is enough, what more budget changes, a run in two parts, and a run of one step.
+-- The laws of runs: how many steps there are and how far they come, which budget is enough, what more budget changes, a run in two parts, and a run
+-- of one step.
 use Prim.Native.Nat.{ℕ, _+_, _*_, _<_, _≤_}
 use mathlib.Core.Path.{_≡_, refl, sym, _∙_, ap}
 use mathlib.Core.Bool.{Bool, true, false}
@@ -36,14 +37,26 @@ unfolding filesOf
 length-files [] masks file = refl
 length-files (x ∷ xs) masks file = length-files xs masks (movedFile x masks [] file) ∙ length-moved (λ b. b) 0 x masks [] file
 
+-- what holds of every split and of every refusal holds of a run's numbers
+of-run : (P : Ran → Type 0) (code : List ℕ) (file masks features budget : ℕ) → P (steppedRun code features budget) → ((why : Refusal) → P (refusedRun why)) → P (runOf code file masks features budget)
+unfolding runOf
+of-run P code file masks features budget p q =
+    of-either P (both (sizesRight file masks) (featuresKnown features)) _ _
+    (of-either P (leb (length code) codeLimit) _ _ p (q TooLong))
+    (q Argument)
+
 -- steps are never more than a quarter of the list's bytes
 pub few-steps : (code : List ℕ) (file masks features budget : ℕ) → 4 * runOf code file masks features budget .steps ≤ length code
-unfolding runOf steppedRun runSplit
+unfolding steppedRun runSplit
 few-steps code file masks features budget =
     let c = counted withoutMemory MemoryLength features budget code in
-    of-either (λ (r : Ran). 4 * r .steps ≤ length code) (both (both (eqb file fileSize) (eqb masks maskCount)) (featuresKnown features)) _ _
-    (of-either (λ (r : Ran). 4 * r .steps ≤ length code) (leb (length code) codeLimit) _ _ (omega (arith, c .steps, c .within)) (omega arith))
-    (omega arith)
+    of-run (λ (r : Ran). 4 * r .steps ≤ length code) code file masks features budget (omega (arith, c .steps, c .within)) (λ why. omega arith)
+
+-- a run's place is within the list
+pub place-within : (code : List ℕ) (file masks features budget : ℕ) → runOf code file masks features budget .place ≤ length code
+unfolding steppedRun runSplit
+place-within code file masks features budget =
+    of-run (λ (r : Ran). r .place ≤ length code) code file masks features budget (counted withoutMemory MemoryLength features budget code .within) (λ why. omega arith)
 
 -- ---- a run that answers 1 or 8, or goes
 
@@ -193,7 +206,7 @@ module _ (code masks : List ℕ) (features n m : ℕ) (file : List ℕ) where
       by (goes p) g h = let r = run-is code masks features file p n in same-split p (split-ended (rw r at g) (rw r at h))
       by (stops r f j) g h = absurd (no-done r (rw (f n) at g))
 
--- ---- a run of one step is a step: with a run in two parts, a run of k steps is k steps, each on the file that the one before it left
+-- ---- a run of one step is a step
 
 -- a step's answer as a run's
 abbrev pub ofStep : Stepped → Ran
@@ -234,3 +247,11 @@ module _ (code masks : List ℕ) (features : ℕ) (file : List ℕ) (some : 0 < 
       by true t true k = on-decoded t k (decodeOf code features) refl
       by true t false k = record { numbers = rw (t, k); bytes = rw (t, k) }
       by false t k q = record { numbers = rw t; bytes = rw t }
+
+-- a run leaves as many bytes as there were
+pub length-run : (code masks : List ℕ) (features budget : ℕ) (file : List ℕ) → length (fileAfterRun code masks features budget file) ≡ length file
+length-run code masks features budget file = by (case-of code masks features file)
+  where
+    by : Case code masks features file → length (fileAfterRun code masks features budget file) ≡ length file
+    by (goes p) = ap length (file-is code masks features file p budget) ∙ (unfold steppedFile in length-files (runSplit code features budget .instructions) masks file)
+    by (stops why f h) = ap length (h budget)
