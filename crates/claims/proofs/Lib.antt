@@ -1,4 +1,3 @@
--- The page of claims, and what it cites beside the layers' own laws.
-pub mod Words
+-- Demand 3, proved from the layers' own laws.
 mod Whole
-pub mod Claims
+pub mod Demand3

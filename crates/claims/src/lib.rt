@@ -1,1 +1,1 @@
-// The claims about the handler: no code, only the page of theorems in proofs/Claims.antt.
+// What is claimed of whole lists: no code, only the statements in specs/ and their proofs.
