@@ -1,3 +1,4 @@
--- Demand 3, proved from the layers' own laws.
+-- Demand 3 and a run's steps, proved from the layers' own laws.
 mod Whole
 pub mod Demand3
+pub mod Stepwise
