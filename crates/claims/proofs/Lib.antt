@@ -2,3 +2,4 @@
 mod Whole
 pub mod Demand3
 pub mod Stepwise
+pub mod Examples
