@@ -53,7 +53,7 @@ module _ (masks : List ℕ) (features : ℕ) where
     stepped (Stepped.Refused why) e =
         let same = a-refusal-stays code masks features 1 k file why (rw (one .numbers, e)) in
         rw (same .numbers, one .numbers, e, same .bytes, one .bytes, refusal-keeps code masks features [] file why e)
-        (record { within = omega arith; steps = Steps.none; at-the-end = λ d. absurd (no-done why d); refused = λ r d. (omega arith, cc) })
+        (record { within = omega arith; steps = Steps.none; at-the-end = λ d. absurd (no-done why d); refused = λ r d. (omega arith, some, cc) })
     stepped (Stepped.Done n) e =
         let two = in-two-runs code masks features 1 k file (rw (one .numbers, e)) in
         let most : n ≤ length code = rw (one .numbers, e) at (place-within code (length file) (length masks) features 1) in
@@ -63,7 +63,9 @@ module _ (masks : List ℕ) (features : ℕ) where
           within = omega (arith, ih .within);
           steps = Steps.next e (ih .steps);
           at-the-end = λ d b. omega (arith, ih .at-the-end d (omega arith), length-drop n code);
-          refused = λ why d. let r = ih .refused why d in (omega (arith, r .0), rw (drop-drop (ranOf (drop n code) masks features k after .place) n code) at (r .1));
+          refused = λ why d.
+              let r = ih .refused why d in
+              (omega (arith, r .0), omega (arith, r .1, length-drop n code), rw (drop-drop (ranOf (drop n code) masks features k after .place) n code) at (r .2));
         })
 
   by-steps : (k : ℕ) (code file : List ℕ) → Passed code masks features file → Goes code file k

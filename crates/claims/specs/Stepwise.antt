@@ -18,11 +18,11 @@ module _ (masks : List ℕ) (features : ℕ) where
     next : {k n place : ℕ} {code file after : List ℕ} → stepOf code (length file) (length masks) features 0 ≡ Stepped.Done n
         → Steps k (drop n code) (fileAfter code masks features [] file) place after → Steps (1 + k) code file (n + place) after
 
-  -- r and after are what a run gives: steps within the budget. One that answers 0 with budget left is at the list's end, and one that is refused has
-  -- budget left, and the step at its place is refused so
+  -- r and after are what a run gives: steps within the budget. One that answers 0 with budget left is at the list's end. One that is refused has
+  -- budget and bytes left, and the step at its place is refused by the same answer
   pub record Stepwise (code file : List ℕ) (budget : ℕ) (r : Ran) (after : List ℕ) : Type 0 where
     pub within : r .steps ≤ budget
     pub steps : Steps (r .steps) code file (r .place) after
     pub at-the-end : r .answer ≡ Answer.Done → r .steps < budget → r .place ≡ length code
     pub refused : (why : Refusal) → r .answer ≡ Answer.Refused why
-        → (r .steps < budget) × (stepOf (drop (r .place) code) (length after) (length masks) features 0 ≡ Stepped.Refused why)
+        → (r .steps < budget) × (r .place < length code) × (stepOf (drop (r .place) code) (length after) (length masks) features 0 ≡ Stepped.Refused why)
