@@ -1,6 +1,7 @@
 -- Demand 3 as one statement about whole lists: a record with a field for each clause, in the demand's order. `demand-3` in proofs/Demand3.antt says
 -- that all masks and features have it. The fields speak of what the entry points' promises cite: buildOf and mapBuilt (build), runOf and
--- fileAfterRun (run), applyOf and fileApplied (apply), composeOf and mapComposed (compose). Their own words come first.
+-- fileAfterRun (run), applyOf and fileApplied (apply), composeOf and mapComposed (compose). Their own words come first. `A ↔ B` says that each
+-- follows from the other, and `(m : A) × B` that there is an m with B.
 use Prim.Native.Nat.{ℕ, _<_, _≤_}
 use mathlib.Core.Path.{_≡_}
 use mathlib.Core.Bool.{true}
@@ -23,7 +24,7 @@ File file = (length file ≡ fileSize) × ((p : ℕ) → readByte file p < 256)
 abbrev pub Output : List ℕ → Type 0
 Output out = length out ≡ mapEntries
 
--- a map that answers 1 and 9 let pass, built or not: 2,048 entries, each a place or the zero
+-- a map that passes, built or not: answers 1 and 9 do not refuse it. It has 2,048 entries, each a place or the zero
 abbrev pub Map : List ℕ → Type 0
 Map m = (length m ≡ mapEntries) × (fine m ≡ true)
 
