@@ -3,7 +3,7 @@ use Prim.Native.Nat.{ℕ, _<_}
 use mathlib.Core.Path.{_≡_, sym, _∙_, ap}
 use mathlib.Core.List.{List, [], _∷_}
 use native.Mathlib.Omega.{arith}
-use lib.Dec.{lit<}
+use lib.Dec.{lit<, lit≤}
 use lib.ListN.{length}
 use borrow.Author.Tests.{eq-eqb}
 use Rattle.seq.proofs.Tabulate.{getD-tabulate}
@@ -16,10 +16,8 @@ use Rattle.decode.specs.Modrm.{sibSize, displacementSize}
 use Rattle.decode.specs.Reserved.{wrongW, wrongWidth, wrongVvvv, wrongBroadcast, wrongZeroing, checkOf, neededOf, enoughOf}
 use Rattle.decode.specs.Instruction.{encodingOf, firstOf, thirdOf, immediateOf, instructionOf}
 use Rattle.decode.specs.Decode.{finishOf, onTotal, onRow, onHead, knownOf, decodeOf}
-use Rattle.moves.specs.Origin.{originOf}
-use Rattle.moves.specs.Moved.{entryOf, placed}
 use Rattle.moves.specs.Mappable.{mappable}
-use Rattle.moves.proofs.Laws.{moved-at}
+use Rattle.moves.proofs.Laws.{outside, above-width}
 use Rattle.run.specs.Split.{split}
 use Rattle.bytemap.specs.ByteMap.{readEntry}
 use Rattle.bytemap.specs.Build.{buildSplit, scannedOf, buildOf, identity, mapsOf, mapOf}
@@ -45,15 +43,15 @@ module _ (masks : List ℕ) where
     entry3 : readEntry (mapOf into3 masks allFeatures) 80 ≡ 80
 
   computed : length masks ≡ maskCount → Computed
-  unfolding Accepted buildOf scannedOf mapOf mapsOf buildSplit mappable split decodeOf knownOf onHead onRow onTotal finishOf headOf prefixSize prefixOf fixedBits rows findIn matchesRow matchesW sibSize displacementSize checkOf wrongW wrongWidth wrongVvvv wrongBroadcast wrongZeroing enoughOf neededOf hasFeature instructionOf encodingOf firstOf thirdOf immediateOf mnemonicOf widthOf elementOf placed entryOf originOf
+  unfolding Accepted buildOf scannedOf mapOf mapsOf buildSplit mappable split decodeOf knownOf onHead onRow onTotal finishOf headOf prefixSize prefixOf fixedBits rows findIn matchesRow matchesW sibSize displacementSize checkOf wrongW wrongWidth wrongVvvv wrongBroadcast wrongZeroing enoughOf neededOf hasFeature instructionOf encodingOf firstOf thirdOf immediateOf mnemonicOf widthOf elementOf
   computed e =
       let t = eq-eqb (length masks) maskCount e in
       let h : 80 < length identity = rw length-identity (lit< tt) in
       record {
         accepted1 = rw t;
         accepted3 = rw t;
-        entry1 = moved-at (λ e. 0) zeroEntry _ masks [] identity 80 h;
-        entry3 = moved-at (λ e. 0) zeroEntry _ masks [] identity 80 h ∙ (unfold identity in getD-tabulate mapEntries (λ p. p) 80 zeroEntry (lit< tt));
+        entry1 = above-width (λ e. 0) zeroEntry _ masks [] identity 16 (lit≤ tt) (lit< tt) h;
+        entry3 = outside (λ e. 0) zeroEntry _ masks [] identity 80 (λ q. omega arith) ∙ (unfold identity in getD-tabulate mapEntries (λ p. p) 80 zeroEntry (lit< tt));
       }
 
   pub lists-that-are-accepted : length masks ≡ maskCount → Accepted into1 masks allFeatures × Accepted into3 masks allFeatures
