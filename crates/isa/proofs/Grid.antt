@@ -1,4 +1,4 @@
--- A row as the code keeps it, 16 numbers in a line, and as the definition has it.
+-- A row as the code keeps it, 12 numbers in a line, and as the definition has it.
 use Prim.Native.Nat.{ℕ, _+_, _*_, _/_, _%_}
 use mathlib.Core.Path.{_≡_, sym}
 use mathlib.Core.List.{List, [], _∷_, map}
@@ -8,8 +8,8 @@ use Rattle.isa.specs.declared.table.Row.{Row}
 
 abbrev columns : Row → List ℕ
 columns r =
-    r .mnemonic ∷ r .encoding ∷ r .pp ∷ r .map ∷ r .opcode ∷ r .w ∷ r .least ∷ (r .immediate + 2 * r .first) ∷ r .element ∷ r .broadcast
-    ∷ r .needs ∷ r .needs256 ∷ r .kind ∷ r .bits ∷ r .group ∷ r .control ∷ []
+    r .mnemonic ∷ r .encoding ∷ r .pp ∷ r .map ∷ r .opcode ∷ r .w ∷ r .least ∷ (r .immediate + 2 * r .first + 4 * r .control)
+    ∷ (r .element + 32 * r .broadcast) ∷ (r .needs + 8 * r .needs256) ∷ (r .kind + 8 * r .group) ∷ r .bits ∷ []
 
 abbrev toRow : List ℕ → Row
 toRow t =
@@ -22,15 +22,15 @@ toRow t =
       w = getD t 5 0;
       least = getD t 6 0;
       immediate = getD t 7 0 % 2;
-      first = getD t 7 0 / 2;
-      element = getD t 8 0;
-      broadcast = getD t 9 0;
-      needs = getD t 10 0;
-      needs256 = getD t 11 0;
-      kind = getD t 12 0;
-      bits = getD t 13 0;
-      group = getD t 14 0;
-      control = getD t 15 0;
+      first = getD t 7 0 / 2 % 2;
+      element = getD t 8 0 % 32;
+      broadcast = getD t 8 0 / 32;
+      needs = getD t 9 0 % 8;
+      needs256 = getD t 9 0 / 8;
+      kind = getD t 10 0 % 8;
+      bits = getD t 11 0;
+      group = getD t 10 0 / 8;
+      control = getD t 7 0 / 4;
     }
 
 pub row-is : (i : ℕ) → toRow (getD (map columns rows) i []) ≡ getD rows i blank

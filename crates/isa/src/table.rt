@@ -82,26 +82,32 @@ const WIG: u8 = Row::ANY_W;
 const XMM: u8 = Width::L128;
 
 const YMM: u8 = Width::L256;
-// The operands, as the manual abbreviates them: register, V for the first source in vvvv, M for r/m, I for the immediate.
-const RMI: u8 = 1;
+// The operands, as the manual abbreviates them: register, V for the first source in vvvv, M for r/m, I for the immediate, which
+// is the control where there is one; C stands for V or M where that one is the control. 1 for I, 2 for V, 4 times the control.
+const RMI: u8 = 1 + 4 * Control::IMMEDIATE;
 
-const RVM: u8 = 2;
+const RVM: u8 = 2 + 4 * Control::NOWHERE;
 
-const RVMI: u8 = 3;
+const RVMI: u8 = 3 + 4 * Control::IMMEDIATE;
 
-const BCST: u8 = 1;
+const RCM: u8 = 2 + 4 * Control::FIRST;
 
-const NO: u8 = 0;
+const RVC: u8 = 2 + 4 * Control::THIRD;
 
-const AVX: u8 = Features::AVX;
+// Elements of 4 and 8 bytes that a memory operand can repeat.
+const B4: u8 = 4 + 32;
 
-const AVX2: u8 = Features::AVX2;
+const B8: u8 = 8 + 32;
+// The feature needed, and 8 times the one at 256 bits.
+const AVX: u8 = Features::AVX + 8 * Features::AVX;
 
-const F: u8 = Features::AVX512F;
+const AVX2: u8 = Features::AVX + 8 * Features::AVX2;
 
-const VBMI: u8 = Features::AVX512_VBMI;
+const F: u8 = Features::AVX512F + 8 * Features::AVX512F;
 
-const DIGIT: u8 = Move::BY_DIGIT;
+const VBMI: u8 = Features::AVX512_VBMI + 8 * Features::AVX512_VBMI;
+// The kind of move, and 8 times its group's width.
+const DIGIT: u8 = Move::BY_DIGIT + 8 * Width::L128;
 
 const LANE: u8 = Move::IN_LANE;
 
@@ -109,197 +115,20 @@ const ANY: u8 = Move::ANYWHERE;
 
 const LOW: u8 = Move::LOW_HALVES;
 
-const LANES: u8 = Move::LANE_OR_ZERO;
+const ZERO: u8 = Move::LANE_OR_ZERO;
 
-const IMM: u8 = Control::IMMEDIATE;
-
-const S1: u8 = Control::FIRST;
-
-const S2: u8 = Control::THIRD;
-
-// Mnemonic, encoding, pp, map, opcode, W, least width, operands, element bytes, broadcast, feature needed, feature needed at 256 bits,
-// kind of move, its bits, its group, its control.
-const ROWS: [[u8; 16]; 10] = [
-    [
-        VPERMILPD,
-        VEX,
-        1,
-        3,
-        0x05,
-        W0,
-        XMM,
-        RMI,
-        8,
-        NO,
-        AVX,
-        AVX,
-        DIGIT,
-        1,
-        XMM,
-        IMM,
-    ],
-    [
-        VPERMILPD,
-        EVEX,
-        1,
-        3,
-        0x05,
-        W1,
-        XMM,
-        RMI,
-        8,
-        BCST,
-        F,
-        F,
-        DIGIT,
-        1,
-        XMM,
-        IMM,
-    ],
-    [
-        VPERMILPD,
-        VEX,
-        1,
-        2,
-        0x0D,
-        W0,
-        XMM,
-        RVM,
-        8,
-        NO,
-        AVX,
-        AVX,
-        LANE,
-        1,
-        NO,
-        S2,
-    ],
-    [
-        VPERMILPD,
-        EVEX,
-        1,
-        2,
-        0x0D,
-        W1,
-        XMM,
-        RVM,
-        8,
-        BCST,
-        F,
-        F,
-        LANE,
-        1,
-        NO,
-        S2,
-    ],
-    [
-        VPERMB,
-        EVEX,
-        1,
-        2,
-        0x8D,
-        W0,
-        XMM,
-        RVM,
-        1,
-        NO,
-        VBMI,
-        VBMI,
-        ANY,
-        NO,
-        NO,
-        S1,
-    ],
-    [
-        VUNPCKLPS,
-        VEX,
-        0,
-        1,
-        0x14,
-        WIG,
-        XMM,
-        RVM,
-        4,
-        NO,
-        AVX,
-        AVX,
-        LOW,
-        NO,
-        NO,
-        NO,
-    ],
-    [
-        VUNPCKLPS,
-        EVEX,
-        0,
-        1,
-        0x14,
-        W0,
-        XMM,
-        RVM,
-        4,
-        BCST,
-        F,
-        F,
-        LOW,
-        NO,
-        NO,
-        NO,
-    ],
-    [
-        VPSHUFD,
-        VEX,
-        1,
-        1,
-        0x70,
-        WIG,
-        XMM,
-        RMI,
-        4,
-        NO,
-        AVX,
-        AVX2,
-        DIGIT,
-        2,
-        XMM,
-        IMM,
-    ],
-    [
-        VPSHUFD,
-        EVEX,
-        1,
-        1,
-        0x70,
-        W0,
-        XMM,
-        RMI,
-        4,
-        BCST,
-        F,
-        F,
-        DIGIT,
-        2,
-        XMM,
-        IMM,
-    ],
-    [
-        VPERM2F128,
-        VEX,
-        1,
-        3,
-        0x06,
-        W0,
-        YMM,
-        RVMI,
-        16,
-        NO,
-        AVX,
-        AVX,
-        LANES,
-        NO,
-        NO,
-        IMM,
-    ],
+// Mnemonic, encoding, pp, map, opcode, W, least width, operands, element bytes, features, move, its bits.
+const ROWS: [[u8; 12]; 10] = [
+    [VPERMILPD, VEX, 1, 3, 0x05, W0, XMM, RMI, 8, AVX, DIGIT, 1],
+    [VPERMILPD, EVEX, 1, 3, 0x05, W1, XMM, RMI, B8, F, DIGIT, 1],
+    [VPERMILPD, VEX, 1, 2, 0x0D, W0, XMM, RVC, 8, AVX, LANE, 1],
+    [VPERMILPD, EVEX, 1, 2, 0x0D, W1, XMM, RVC, B8, F, LANE, 1],
+    [VPERMB, EVEX, 1, 2, 0x8D, W0, XMM, RCM, 1, VBMI, ANY, 0],
+    [VUNPCKLPS, VEX, 0, 1, 0x14, WIG, XMM, RVM, 4, AVX, LOW, 0],
+    [VUNPCKLPS, EVEX, 0, 1, 0x14, W0, XMM, RVM, B4, F, LOW, 0],
+    [VPSHUFD, VEX, 1, 1, 0x70, WIG, XMM, RMI, 4, AVX2, DIGIT, 2],
+    [VPSHUFD, EVEX, 1, 1, 0x70, W0, XMM, RMI, B4, F, DIGIT, 2],
+    [VPERM2F128, VEX, 1, 3, 0x06, W0, YMM, RVMI, 16, AVX, ZERO, 0],
 ];
 
 fn row_at(i: usize) -> Row
@@ -315,17 +144,16 @@ fn row_at(i: usize) -> Row
         opcode: t[4],
         w: t[5],
         least: t[6],
-        // RMI and RVMI are odd, RVM and RVMI at least 2.
         immediate: t[7] % 2,
-        first: t[7] / 2,
-        element: t[8],
-        broadcast: t[9],
-        needs: t[10],
-        needs256: t[11],
-        kind: t[12],
-        bits: t[13],
-        group: t[14],
-        control: t[15],
+        first: t[7] / 2 % 2,
+        element: t[8] % 32,
+        broadcast: t[8] / 32,
+        needs: t[9] % 8,
+        needs256: t[9] / 8,
+        kind: t[10] % 8,
+        bits: t[11],
+        group: t[10] / 8,
+        control: t[7] / 4,
     }
 }
 

@@ -3,3 +3,4 @@ mod Digits
 pub mod Rules
 pub mod Placed
 pub mod Laws
+pub mod Sentences
