@@ -3,3 +3,4 @@ pub mod Pick
 pub mod Origin
 pub mod Moved
 pub mod Mappable
+pub mod Examples
