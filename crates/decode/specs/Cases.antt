@@ -8,10 +8,10 @@ use lib.ListN.{replicate}
 use Rattle.seq.specs.Tabulate.{tabulate}
 use Rattle.isa.specs.Kinds.{registerBytes, zeroEntry}
 use Rattle.isa.specs.Features.{hasFeature}
-use Rattle.isa.specs.Operands.{mnemonicOf, widthOf, elementOf, digitsOf, moveFrom, controlOf}
+use Rattle.isa.specs.Operands as Names
+use Rattle.isa.specs.Operands.{widthOf, elementOf, digitsOf, moveFrom, controlOf}
 use Rattle.isa.specs.Table.{rows, findIn, matchesRow, matchesW}
 use Rattle.isa.specs.declared.operands.Mnemonic.{Mnemonic}
-use Rattle.isa.specs.declared.operands.Mnemonic.the-variants.{Vpermilpd, Vpermb, Vunpcklps, Vpshufd, Vperm2f128}
 use Rattle.isa.specs.declared.operands.Encoding.{Encoding}
 use Rattle.isa.specs.declared.operands.Encoding.the-variants.{Vex, Evex}
 use Rattle.isa.specs.declared.operands.Width.{Width}
@@ -65,22 +65,22 @@ pub record Listed : Type 0 where
   pub control : Control
 
 abbrev pub vpshufd : Listed
-vpshufd = record { name = Vpshufd; element = Doubleword; moves = ByDigit Two Bits128; control = Control.Immediate }
+vpshufd = record { name = Names.vpshufd; element = Doubleword; moves = ByDigit Two Bits128; control = Control.Immediate }
 
 abbrev pub vpermilpd : Listed
-vpermilpd = record { name = Vpermilpd; element = Quadword; moves = ByDigit One Bits128; control = Control.Immediate }
+vpermilpd = record { name = Names.vpermilpd; element = Quadword; moves = ByDigit One Bits128; control = Control.Immediate }
 
 abbrev pub vpermilpdRegister : Listed
-vpermilpdRegister = record { name = Vpermilpd; element = Quadword; moves = InLane 1; control = Control.Third }
+vpermilpdRegister = record { name = Names.vpermilpd; element = Quadword; moves = InLane 1; control = Control.Third }
 
 abbrev pub vpermb : Listed
-vpermb = record { name = Vpermb; element = Byte; moves = Anywhere; control = Control.First }
+vpermb = record { name = Names.vpermb; element = Byte; moves = Anywhere; control = Control.First }
 
 abbrev pub vunpcklps : Listed
-vunpcklps = record { name = Vunpcklps; element = Doubleword; moves = LowHalves; control = Control.Nowhere }
+vunpcklps = record { name = Names.vunpcklps; element = Doubleword; moves = LowHalves; control = Control.Nowhere }
 
 abbrev pub vperm2f128 : Listed
-vperm2f128 = record { name = Vperm2f128; element = Lane; moves = LaneOrZero; control = Control.Immediate }
+vperm2f128 = record { name = Names.vperm2f128; element = Lane; moves = LaneOrZero; control = Control.Immediate }
 
 -- encoding, width, destination, first source, third operand, mask, z, b, immediate, length
 abbrev pub operands : Listed → Encoding → Width → ℕ → First → Third → ℕ → Bool → Bool → Immediate → ℕ → Decoded
@@ -188,9 +188,9 @@ Decodes cases =
     × (map (λ (c : Case). answerOf (c .gives)) cases ≡ map (λ (c : Case). c .answer) cases)
 
 pub starred-decode : Decodes starredCases
-unfolding starredCases decodeOf knownOf onHead onRow onTotal finishOf headOf prefixSize prefixOf fixedBits rows findIn matchesRow matchesW sibSize displacementSize checkOf wrongW wrongWidth wrongVvvv wrongBroadcast wrongZeroing enoughOf neededOf hasFeature instructionOf encodingOf firstOf thirdOf immediateOf mnemonicOf widthOf elementOf digitsOf moveFrom controlOf
+unfolding starredCases decodeOf knownOf onHead onRow onTotal finishOf headOf prefixSize prefixOf fixedBits rows findIn matchesRow matchesW sibSize displacementSize checkOf wrongW wrongWidth wrongVvvv wrongBroadcast wrongZeroing enoughOf neededOf hasFeature instructionOf encodingOf firstOf thirdOf immediateOf widthOf elementOf digitsOf moveFrom controlOf
 starred-decode = (refl, refl)
 
 pub further-decode : Decodes furtherCases
-unfolding furtherCases decodeOf knownOf onHead onRow onTotal finishOf headOf prefixSize prefixOf fixedBits rows findIn matchesRow matchesW sibSize displacementSize checkOf wrongW wrongWidth wrongVvvv wrongBroadcast wrongZeroing enoughOf neededOf hasFeature instructionOf encodingOf firstOf thirdOf immediateOf mnemonicOf widthOf elementOf digitsOf moveFrom controlOf
+unfolding furtherCases decodeOf knownOf onHead onRow onTotal finishOf headOf prefixSize prefixOf fixedBits rows findIn matchesRow matchesW sibSize displacementSize checkOf wrongW wrongWidth wrongVvvv wrongBroadcast wrongZeroing enoughOf neededOf hasFeature instructionOf encodingOf firstOf thirdOf immediateOf widthOf elementOf digitsOf moveFrom controlOf
 further-decode = (refl, refl)

@@ -6,10 +6,9 @@ use mathlib.Core.List.{List, [], _∷_}
 use lib.Dec.{eqb}
 use Rattle.seq.specs.Choice.{if_then_else_, both, either}
 use Rattle.isa.specs.Features.{AVX, AVX2, AVX512F, AVX512VBMI}
-use Rattle.isa.specs.Operands.{mnemonicNumber, underVex, underEvex, widthOf, widthBytes, moveKind, controlNumber}
+use Rattle.isa.specs.Operands.{mnemonicNumber, vpermilpd, vpermb, vunpcklps, vpshufd, vperm2f128, underVex, underEvex, widthOf, widthBytes, moveKind, controlNumber}
 use Rattle.isa.specs.Table.{W0, W1, anyW, from128, from256, rows}
 use Rattle.isa.specs.declared.operands.Mnemonic.{Mnemonic}
-use Rattle.isa.specs.declared.operands.Mnemonic.the-variants.{Vpermilpd, Vpermb, Vunpcklps, Vpshufd, Vperm2f128}
 use Rattle.isa.specs.declared.operands.Control.{Control}
 use Rattle.isa.specs.declared.table.Row.{Row}
 
@@ -23,34 +22,34 @@ named name row = eqb (row .mnemonic) (mnemonicNumber name)
 -- rule 3.5: VEX needs AVX, but AVX2 for VPSHUFD of 256 bits; EVEX needs AVX512F, but AVX512_VBMI for VPERMB
 abbrev pub needed : Row → Bool
 needed row =
-    if eqb (row .encoding) underVex then both (eqb (row .needs) AVX) (eqb (row .needs256) (if named Vpshufd row then AVX2 else AVX))
-    else both (eqb (row .needs) (if named Vpermb row then AVX512VBMI else AVX512F)) (eqb (row .needs256) (row .needs))
+    if eqb (row .encoding) underVex then both (eqb (row .needs) AVX) (eqb (row .needs256) (if named vpshufd row then AVX2 else AVX))
+    else both (eqb (row .needs) (if named vpermb row then AVX512VBMI else AVX512F)) (eqb (row .needs256) (row .needs))
 
 -- table 3.1: under EVEX the quadword rows have W 1 and the others W 0; under VEX, W is 0 or counts for nothing
 abbrev pub wide : Row → Bool
 wide row =
     if eqb (row .encoding) underEvex then eqb (row .w) (if eqb (row .element) 8 then W1 else W0)
-    else eqb (row .w) (if either (named Vunpcklps row) (named Vpshufd row) then anyW else W0)
+    else eqb (row .w) (if either (named vunpcklps row) (named vpshufd row) then anyW else W0)
 
 -- rule 5.7: VPERM2F128 alone has no 128 bits
 abbrev pub narrow : Row → Bool
-narrow row = eqb (row .least) (if named Vperm2f128 row then from256 else from128)
+narrow row = eqb (row .least) (if named vperm2f128 row then from256 else from128)
 
 -- rule 3.7: every EVEX row but VPERMB's can repeat an element, and no VEX row
 abbrev pub repeats : Row → Bool
-repeats row = eqb (row .broadcast) (if both (eqb (row .encoding) underEvex) (not (named Vpermb row)) then 1 else 0)
+repeats row = eqb (row .broadcast) (if both (eqb (row .encoding) underEvex) (not (named vpermb row)) then 1 else 0)
 
 -- rule 3.6: of the rows with an immediate, VPERM2F128 alone has a first source; every other row has one
 abbrev pub sourced : Row → Bool
-sourced row = eqb (row .first) (if both (eqb (row .immediate) 1) (not (named Vperm2f128 row)) then 0 else 1)
+sourced row = eqb (row .first) (if both (eqb (row .immediate) 1) (not (named vperm2f128 row)) then 0 else 1)
 
 -- rule 4.5: an immediate is the control where there is one. Else VPERMB's control is in its first source, VPERMILPD's in the third operand
 abbrev pub controlled : Row → Bool
 controlled row =
     eqb (row .control)
     (if eqb (row .immediate) 1 then controlNumber Control.Immediate
-    else if named Vpermb row then controlNumber Control.First
-    else if named Vpermilpd row then controlNumber Control.Third
+    else if named vpermb row then controlNumber Control.First
+    else if named vpermilpd row then controlNumber Control.Third
     else controlNumber Control.Nowhere)
 
 -- rules 4.6 and 4.7: digits of b bits name the elements of a lane, so that 2 ^ b elements are one; of a control in a register, bit 1 is the first

@@ -8,14 +8,14 @@ use native.Mathlib.Nat.{add-zero, zero-add, add-assoc, pow-suc}
 use lib.Dec.{leb}
 use borrow.Author.Tests.{leb-true}
 use Rattle.seq.specs.Choice.{if_then_else_}
-use lib.ListN.{length, drop, length-append, length-drop}
+use lib.ListN.{length, getD, drop, length-append, length-drop, List·getD-eq-default}
 use Rattle.seq.proofs.Tabulate.{by-lt}
+use Rattle.seq.proofs.Parts.{at-every}
 use Rattle.isa.specs.Kinds.{codeLimit, textLeast}
 use Rattle.isa.specs.Features.{allFeatures}
 use Rattle.isa.specs.Operands.{widthBytes}
 use Rattle.isa.specs.Refusal.{statusOf}
 use Rattle.isa.specs.declared.operands.Mnemonic.{Mnemonic}
-use Rattle.isa.specs.declared.operands.Mnemonic.the-variants.{Vpermilpd, Vpermb, Vunpcklps, Vpshufd, Vperm2f128}
 use Rattle.isa.specs.declared.operands.Width.{Width}
 use Rattle.isa.specs.declared.operands.Width.the-variants.{Bits128, Bits256, Bits512}
 use Rattle.isa.specs.declared.refusal.Refusal.{Refusal}
@@ -28,7 +28,7 @@ use Rattle.run.specs.Split.{Split, stopped, followed}
 use Rattle.run.specs.declared.Answer.{Answer}
 use Rattle.run.proofs.Splits.{cut, First, nothing, refused, goes, first, empty-cut, zero-cut}
 use Rattle.listing.specs.Text.{ascii, digit, decimal}
-use Rattle.listing.specs.Listing.{headings, mnemonicText, field, nameText, lineText, acceptedLine, refusedLine, listedSplit, stepLines, lastLine, listingText, refusedListing, listingOf}
+use Rattle.listing.specs.Listing.{headings, names, field, nameText, lineText, acceptedLine, refusedLine, listedSplit, stepLines, lastLine, listingText, refusedListing, listingOf}
 use Rattle.listing.specs.declared.Line.{Line}
 use Rattle.listing.proofs.Numbers.{below-ten, from-ten}
 
@@ -64,12 +64,10 @@ line-length l =
       length-append b (ascii "\t"),
     )
 
-name-most : (m : Mnemonic) → length (mnemonicText m) ≤ 10
-name-most Vpermilpd = omega arith
-name-most Vpermb = omega arith
-name-most Vunpcklps = omega arith
-name-most Vpshufd = omega arith
-name-most Vperm2f128 = omega arith
+name-most : (m : Mnemonic) → length (nameText m) ≤ 10
+name-most m = by-lt (m .0) (length names)
+    (λ h. leb-true (length (nameText m)) 10 (at-every (length names) (λ n. leb (length (getD names n (ascii "-"))) 10) refl (m .0) h))
+    (λ h. rw (List·getD-eq-default names (ascii "-") h) (omega arith))
 
 bits-most : (w : Width) → 8 * widthBytes w < 1000
 bits-most Bits128 = omega arith

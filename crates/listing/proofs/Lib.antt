@@ -1,5 +1,6 @@
 -- The listing's laws, and lemmas that its proofs cite.
 mod Puts
+mod Names
 mod Numbers
 mod Lines
 pub mod Bounds

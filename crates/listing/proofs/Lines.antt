@@ -7,7 +7,8 @@ use native.Mathlib.Omega.{arith}
 use native.Mathlib.Nat.{add-zero, zero-add, sub-zero, add-assoc}
 use lib.ListN.{length, drop, length-append}
 use Rattle.isa.specs.Features.{allFeatures}
-use Rattle.isa.specs.Operands.{widthBytes}
+use Rattle.isa.specs.Operands.{mnemonicOf, widthBytes}
+use Rattle.isa.specs.declared.operands.Mnemonic.{Mnemonic}
 use Rattle.isa.specs.Refusal.{statusOf}
 use Rattle.isa.specs.declared.refusal.Refusal.{Refusal}
 use Rattle.isa.specs.declared.refusal.Refusal.the-variants.{Argument}
@@ -18,18 +19,17 @@ use Rattle.run.specs.Split.{Split, split}
 use Rattle.run.proofs.Rests.{rest, rest-ends, rest-refused, Next, next-is}
 use Rattle.listing.specs.Listing.{headings, lineText, acceptedLine, refusedLine, listedSplit, stepLines, lastLine, listingText}
 use Rattle.listing.specs.Inner.{lineOf, linesFrom}
-use Rattle.listing.specs.declared.Name.{Name}
 use Rattle.listing.specs.declared.Line.{Line}
 use Rattle.listing.proofs.Puts.{Put, length-put, put-nothing, and-then}
 
 -- the line of a decoding, as the function makes it from what its callees gave
 module _ (place : ℕ) (d : Decoded) (k : ℕ) where
   pub accepted-line : (x : Instruction) → d ≡ Decoded.Accepted x → k ≡ widthBytes (x .width)
-      → record { place = place; length = x .length; name = Name.Of (x .mnemonic); bits = 8 * k; status = 0 } ≡ lineOf place d
+      → record { place = place; length = x .length; name = x .mnemonic; bits = 8 * k; status = 0 } ≡ lineOf place d
   accepted-line x p e = rw (p, e)
 
-  pub refused-line : (why : Refusal) → d ≡ Decoded.Refused why → k ≡ statusOf why → record { place = place; length = 0; name = Name.Absent; bits = 0; status = k } ≡ lineOf place d
-  refused-line why p e = rw (p, e)
+  pub refused-line : (why : Refusal) → d ≡ Decoded.Refused why → k ≡ statusOf why → (m : Mnemonic) → m ≡ mnemonicOf 0 → record { place = place; length = 0; name = m; bits = 0; status = k } ≡ lineOf place d
+  refused-line why p e m q = rw (p, e, q)
 
 -- the text is the headings and the lines from the start on
 pub text-is : (code : List ℕ) → listingText code ≡ headings ++ linesFrom code 0

@@ -3,37 +3,38 @@ use Prim.Native.Nat.{ℕ, _+_, _*_}
 use mathlib.Core.Bool.{true}
 use mathlib.Core.List.{List, [], _∷_, _++_}
 use lib.Dec.{leb}
-use lib.ListN.{length, drop}
+use lib.ListN.{length, getD, drop}
 use Rattle.seq.specs.Choice.{if_then_else_}
 use Rattle.isa.specs.Kinds.{codeLimit, textLeast}
 use Rattle.isa.specs.Features.{allFeatures}
-use Rattle.isa.specs.Operands.{widthBytes}
+use Rattle.isa.specs.Operands.{mnemonicNumber, none, widthBytes}
 use Rattle.isa.specs.Refusal.{statusOf}
 use Rattle.isa.specs.declared.operands.Mnemonic.{Mnemonic}
-use Rattle.isa.specs.declared.operands.Mnemonic.the-variants.{Vpermilpd, Vpermb, Vunpcklps, Vpshufd, Vperm2f128}
 use Rattle.isa.specs.declared.refusal.Refusal.{Refusal}
 use Rattle.isa.specs.declared.refusal.Refusal.the-variants.{Argument, TooLong}
 use Rattle.decode.specs.declared.instruction.Instruction.{Instruction}
 use Rattle.run.specs.Split.{Split, split}
 use Rattle.run.specs.declared.Answer.{Answer}
 use Rattle.listing.specs.Text.{ascii, decimal}
-use Rattle.listing.specs.declared.Name.{Name}
 use Rattle.listing.specs.declared.Line.{Line}
 use Rattle.listing.specs.declared.Listed.{Listed}
 
 abbrev pub headings : List ℕ
 headings = ascii "at\tlen\tname\tbits\tanswer\n"
 
-abbrev pub mnemonicText : Mnemonic → List ℕ
-mnemonicText Vpermilpd = ascii "VPERMILPD"
-mnemonicText Vpermb = ascii "VPERMB"
-mnemonicText Vunpcklps = ascii "VUNPCKLPS"
-mnemonicText Vpshufd = ascii "VPSHUFD"
-mnemonicText Vperm2f128 = ascii "VPERM2F128"
+-- rule 3.8: the names in the order of their numbers. A refused step has number 0, and a dash
+abbrev pub names : List (List ℕ)
+names =
+    ascii "-"
+    ∷ ascii "VPERMILPD"
+    ∷ ascii "VPERMB"
+    ∷ ascii "VUNPCKLPS"
+    ∷ ascii "VPSHUFD"
+    ∷ ascii "VPERM2F128"
+    ∷ []
 
-abbrev pub nameText : Name → List ℕ
-nameText (Name.Of mnemonic) = mnemonicText mnemonic
-nameText Name.Absent = ascii "-"
+abbrev pub nameText : Mnemonic → List ℕ
+nameText m = getD names (mnemonicNumber m) (ascii "-")
 
 -- a tab after a field, and a newline after the last
 abbrev pub field : List ℕ → List ℕ
@@ -45,11 +46,11 @@ lineText l =
 
 -- a step that decodes
 abbrev pub acceptedLine : ℕ → Instruction → Line
-acceptedLine place x = record { place = place; length = x .length; name = Name.Of (x .mnemonic); bits = 8 * widthBytes (x .width); status = 0 }
+acceptedLine place x = record { place = place; length = x .length; name = x .mnemonic; bits = 8 * widthBytes (x .width); status = 0 }
 
 -- the step that is refused
 abbrev pub refusedLine : ℕ → Refusal → Line
-refusedLine place why = record { place = place; length = 0; name = Name.Absent; bits = 0; status = statusOf why }
+refusedLine place why = record { place = place; length = 0; name = none; bits = 0; status = statusOf why }
 
 -- every step that decodes is wanted, memory or not, so that Argument is not given here
 unfoldable pub listedSplit : List ℕ → Split

@@ -1,11 +1,11 @@
 // A list of instructions as text.
 ghost use mathlib.Core.Path.{_≡_};
 ghost use mathlib.Core.List.{_∷_, []};
-ghost use Prim.Native.Nat.{_+_, _≤_};
-ghost use lib.ListN.{length};
+ghost use Prim.Native.Nat.{_+_, _<_, _≤_};
+ghost use lib.ListN.{length, take};
 ghost use Rattle.listing.specs.Text.{decimal};
-ghost use Rattle.listing.specs.Inner.{putAt, lineOf, linesFrom};
-ghost use Rattle.listing.specs.Listing.{field, mnemonicText, nameText, lineText, refusedListing, listingOf, textAfter};
+ghost use Rattle.listing.specs.Inner.{putAt, nameAt, lineOf, linesFrom};
+ghost use Rattle.listing.specs.Listing.{names, field, nameText, lineText, refusedListing, listingOf, textAfter};
 use decode::instruction::Decoded;
 use decode::instruction::Instruction;
 use isa::features::Features;
@@ -15,17 +15,12 @@ use isa::operands::Mnemonic;
 use isa::refusal::Refusal;
 use run::Answer;
 
-pub enum Name {
-    Of(Mnemonic),
-    // A refused step has none.
-    Absent,
-}
-
 // What a line says of a step.
 pub struct Line {
     pub place: usize,
     pub length: usize,
-    pub name: Name,
+    // None for a refused step.
+    pub name: Mnemonic,
     pub bits: u32,
     pub status: u32,
 }
@@ -75,27 +70,48 @@ fn put_field(text: &mut [u8], at: usize, number: usize) -> usize
     put(text, end, b'\t')
 }
 
-fn put_mnemonic(text: &mut [u8], at: usize, mnemonic: Mnemonic) -> usize
-    requires { ⌜ at + length (field (mnemonicText mnemonic)) ≤ length (now text) ⌝ }
-    ensures { λ r. ⌜ (r ≡ at + length (field (mnemonicText mnemonic))) × (now (text .exit) ≡ putAt (now (text .entry)) at (field (mnemonicText mnemonic))) ⌝ }
+// The names in the order of their numbers, a tab behind each. The first is for no instruction.
+const NAMES: [[u8; 11]; 6] = [
+    *b"-\t         ",
+    *b"VPERMILPD\t ",
+    *b"VPERMB\t    ",
+    *b"VUNPCKLPS\t ",
+    *b"VPSHUFD\t   ",
+    *b"VPERM2F128\t",
+];
+// Bytes of each, with the tab.
+const SIZES: [u8; 6] = [2, 10, 7, 10, 8, 11];
+
+// Which of them a mnemonic has: one that is none of ours has the first.
+fn name_index(name: Mnemonic) -> usize
+    ensures { λ r. ⌜ (r < length names) × (nameAt r ≡ nameText name) ⌝ }
 {
-    match mnemonic {
-        Mnemonic::Vpermilpd => put_all(text, at, b"VPERMILPD\t"),
-        Mnemonic::Vpermb => put_all(text, at, b"VPERMB\t"),
-        Mnemonic::Vunpcklps => put_all(text, at, b"VUNPCKLPS\t"),
-        Mnemonic::Vpshufd => put_all(text, at, b"VPSHUFD\t"),
-        Mnemonic::Vperm2f128 => put_all(text, at, b"VPERM2F128\t"),
-    }
+    let number = name.number() as usize;
+    if number < NAMES.len() { number } else { 0 }
 }
 
-fn put_name(text: &mut [u8], at: usize, name: Name) -> usize
+fn name_row(index: usize) -> [u8; 11]
+    requires { ⌜ index < length names ⌝ }
+    ensures { λ r. ⌜ take (length (field (nameAt index))) r ≡ field (nameAt index) ⌝ }
+{
+    NAMES[index]
+}
+
+fn name_size(index: usize) -> u8
+    requires { ⌜ index < length names ⌝ }
+    ensures { λ r. ⌜ (r ≡ length (field (nameAt index))) × (r ≤ 11) ⌝ }
+{
+    SIZES[index]
+}
+
+fn put_name(text: &mut [u8], at: usize, name: Mnemonic) -> usize
     requires { ⌜ at + length (field (nameText name)) ≤ length (now text) ⌝ }
     ensures { λ r. ⌜ (r ≡ at + length (field (nameText name))) × (now (text .exit) ≡ putAt (now (text .entry)) at (field (nameText name))) ⌝ }
 {
-    match name {
-        Name::Of(mnemonic) => put_mnemonic(text, at, mnemonic),
-        Name::Absent => put_all(text, at, b"-\t"),
-    }
+    let index = name_index(name);
+    let row = name_row(index);
+    let size = name_size(index) as usize;
+    put_all(text, at, &row[0..size])
 }
 
 fn put_line(text: &mut [u8], at: usize, line: Line) -> usize
@@ -121,7 +137,7 @@ fn line_of(place: usize, decoded: Decoded) -> Line
             Line {
                 place: place,
                 length: x.length,
-                name: Name::Of(mnemonic),
+                name: mnemonic,
                 bits: 8 * width.bytes() as u32,
                 status: 0,
             }
@@ -129,7 +145,7 @@ fn line_of(place: usize, decoded: Decoded) -> Line
         Decoded::Refused(why) => Line {
             place: place,
             length: 0,
-            name: Name::Absent,
+            name: Mnemonic::of(Mnemonic::NONE),
             bits: 0,
             status: why.status(),
         },

@@ -16,7 +16,7 @@ use Rattle.seq.proofs.Tabulate.{length-tabulate, tabulate-getD, map-tabulate}
 use Rattle.seq.proofs.Parts.{every, at-every}
 use Rattle.isa.specs.Kinds.{fileSize, maskCount, registerBytes, registers, zeroEntry}
 use Rattle.isa.specs.Features.{hasFeature}
-use Rattle.isa.specs.Operands.{mnemonicOf, widthOf, elementOf, digitsOf, moveFrom, controlOf}
+use Rattle.isa.specs.Operands.{widthOf, elementOf, digitsOf, moveFrom, controlOf}
 use Rattle.isa.specs.Table.{rows, findIn, matchesRow, matchesW}
 use Rattle.decode.specs.Prefix.{prefixSize, prefixOf, fixedBits, headOf}
 use Rattle.decode.specs.Modrm.{sibSize, displacementSize}
@@ -81,7 +81,7 @@ all-by [] t = tt
 all-by (r ∷ rs) t = let a = both-true (ranTest (decodeOf (r .bytes) 31) r) (runsTest rs) t in (ran-by r (decodeOf (r .bytes) 31) refl (a .0), all-by rs (a .1))
 
 runs-test : runsTest runs ≡ true
-unfolding runs tabulate entryOf controlAt originOf pickOf lowHalves laneOrZero digit bitsOf written decodeOf knownOf onHead onRow onTotal finishOf headOf prefixSize prefixOf fixedBits rows findIn matchesRow matchesW sibSize displacementSize checkOf wrongW wrongWidth wrongVvvv wrongBroadcast wrongZeroing enoughOf neededOf hasFeature instructionOf encodingOf firstOf thirdOf immediateOf mnemonicOf widthOf elementOf digitsOf moveFrom controlOf
+unfolding runs tabulate entryOf controlAt originOf pickOf lowHalves laneOrZero digit bitsOf written decodeOf knownOf onHead onRow onTotal finishOf headOf prefixSize prefixOf fixedBits rows findIn matchesRow matchesW sibSize displacementSize checkOf wrongW wrongWidth wrongVvvv wrongBroadcast wrongZeroing enoughOf neededOf hasFeature instructionOf encodingOf firstOf thirdOf immediateOf widthOf elementOf digitsOf moveFrom controlOf
 runs-test = refl
 
 pub all-ran : AllRan runs

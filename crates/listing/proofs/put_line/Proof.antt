@@ -51,7 +51,7 @@ abbrev Upto : tie.Start → (Line → List ℕ) → ℕ → List ℕ → Type 0
 Upto s part n t = Put (s .args .text .now) (s .args .at) (part (s .args .line)) n t
 
 abbrev start : tie.After-put-field → tie.Start
-start c = c .before .before .before
+start c = c .before .before .before .before
 
 abbrev first : tie.After-put-field2 → tie.After-put-field
 first c = c .before .before .before .before
@@ -114,7 +114,7 @@ pub put-line-spec : {M : Type 1} → statement M
 put-line-spec =
     tie.close
     (tie.spec
-    (λ c κs. let s = c .before .before in place-fits (s .args .line) _ _ (s .pre))
+    (λ c κs. let s = c .before .before .before in place-fits (s .args .line) _ _ (s .pre))
     put-field-requires-2
     put-name-requires
     (λ c. search needs)
