@@ -284,9 +284,12 @@ fn entry(x: Instruction, bits: u64, map: &[u16], i: u8) -> u16
 {
     let from = x.control;
     let immediate = x.immediate;
+    let moves = x.moves;
     let element = x.element;
+    let width = x.width;
     let n = element.bytes();
-    let origin = moves::origin_of(x, bits, control(from, immediate), i / n);
+    let c = control(from, immediate);
+    let origin = moves::origin_of(moves, element, width, x.zeroing, bits, c, i / n);
     held_entry(x, origin, map, i % n)
 }
 

@@ -26,7 +26,7 @@ use Rattle.decode.specs.declared.instruction.First as FirstSource
 use Rattle.decode.specs.declared.instruction.Third as ThirdOperand
 use Rattle.decode.specs.declared.instruction.Instruction.{Instruction}
 use Rattle.moves.specs.Pick.{perLane, digit, lowHalves, laneOrZero, pickOf}
-use Rattle.moves.specs.Origin.{bitsOf, written, originOf}
+use Rattle.moves.specs.Origin.{bitsOf, written, originOf, originBy}
 use Rattle.moves.specs.Moved.{held, registerAt, firstRegister, thirdPart, repeated, immediateByte, controlBy, controlAt, entryOf, placed, moved}
 use Rattle.moves.specs.Mappable.{inInstruction, inRegister, mappable}
 use Rattle.moves.specs.declared.Origin.{Origin}
@@ -53,7 +53,7 @@ module _ {A : Type 0} (byte : A → ℕ) (z : A) (x : Instruction) (masks : List
   -- bytes from the width on are zero
   pub above-width : (i : ℕ) → widthBytes (x .width) ≤ i → i < registerBytes → registerBytes * (x .destination .0 % registers) + i < length file
       → getD (moved byte z x masks memory file) (registerBytes * (x .destination .0 % registers) + i) z ≡ z
-  unfolding entryOf originOf
+  unfolding entryOf originBy
   above-width i h g b =
       moved-at (registerBytes * (x .destination .0 % registers) + i) b
       ∙ placed-in z file (x .destination .0 % registers) _ i g
@@ -141,7 +141,7 @@ mappable-moves h byte byte′ z x masks memory file memory′ e =
 
 origin-same : (x : Instruction) (bits bits′ c j : ℕ) → ((j : ℕ) → j < widthBytes (x .width) / elementBytes (x .element) → written bits j ≡ written bits′ j)
     → originOf x bits c j ≡ originOf x bits′ c j
-unfolding originOf
+unfolding originBy
 origin-same x bits bits′ c j same = by-lt (elementBytes (x .element) * j) (widthBytes (x .width))
     (λ h. rw (same j (starts-below _ (element-divides (x .element)) _ (width-lanes (x .width)) j h)))
     (λ h. rw (le-leb (widthBytes (x .width)) (elementBytes (x .element) * j) h))
@@ -179,7 +179,7 @@ unfolding written
 all-written j h = at-every 64 (written (2 ^ 64 - 1)) refl j h
 
 origin-from-sources : (x : Instruction) (c j : ℕ) → j < 64 → FromSources (originOf x (2 ^ 64 - 1) c j)
-unfolding originOf
+unfolding originBy
 origin-from-sources x c j h =
     rw (all-written j h) (of-either FromSources (leb (widthBytes (x .width)) (elementBytes (x .element) * j)) _ _ tt (pick-from-sources _ _ _ c j))
 
@@ -246,7 +246,7 @@ module _ {A : Type 0} (byte : A → ℕ) (z : A) (x : Instruction) (masks : List
   at = registerBytes * (x .destination .0 % registers) + i
 
   masked-entry : (zeroing : Bool) → x .zeroing ≡ zeroing → getD (moved byte z x masks memory file) at z ≡ (if zeroing then z else getD file at z)
-  unfolding entryOf originOf
+  unfolding entryOf originBy
   masked-entry zeroing q =
       let n = elementBytes (x .element) in
       let w = width-lanes (x .width) in

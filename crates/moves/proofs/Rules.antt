@@ -20,9 +20,8 @@ use Rattle.isa.specs.declared.operands.Move.{Move}
 use Rattle.isa.specs.declared.operands.Move.the-variants.{ByDigit, InLane, Anywhere, LowHalves, LaneOrZero}
 use Rattle.isa.proofs.Sizes.{element-divides, most-bytes}
 use Rattle.decode.specs.declared.instruction.First as FirstSource
-use Rattle.decode.specs.declared.instruction.Instruction.{Instruction}
 use Rattle.moves.specs.Pick.{perLane, groupStart, picks, digit, lowHalves, laneOrZero, pickOf}
-use Rattle.moves.specs.Origin.{bitsOf, written, originOf, maskedOff}
+use Rattle.moves.specs.Origin.{bitsOf, written, originBy, maskedOff}
 use Rattle.moves.specs.Moved.{firstRegister}
 use Rattle.moves.specs.declared.Origin.{Origin}
 use Rattle.moves.specs.declared.Origin.the-variants.{First, Third, Zero}
@@ -110,16 +109,15 @@ module _ (masks : List ℕ) (k : Mask) (m : ℕ) (pm : m ≡ k .0) where
   pub no-bits : (m ≡ 0 → ⊥) → length masks ≤ m → 0 ≡ bitsOf masks k
   no-bits h g = sym (List·getD-eq-default masks 0 g) ∙ its-bits h
 
-module _ (x : Instruction) (bits c j v s : ℕ) (pv : v ≡ widthBytes (x .width)) (ps : s ≡ elementBytes (x .element) * j) where
-  pub above : v ≤ s → Zero ≡ originOf x bits c j
-  unfolding originOf
+module _ (moves : Move) (n w : ℕ) (z : Bool) (bits c j v s : ℕ) (pv : v ≡ w) (ps : s ≡ n * j) where
+  pub above : v ≤ s → Zero ≡ originBy moves n w z bits c j
+  unfolding originBy
   above h = rw (← pv, ← ps, le-leb v s h)
 
-  pub through : s < v → (t : Bool) → t ≡ written bits j → t ≡ true → (o : Origin)
-      → o ≡ pickOf (x .moves) (elementBytes (x .element)) (widthBytes (x .width)) c j → o ≡ originOf x bits c j
-  unfolding originOf
+  pub through : s < v → (t : Bool) → t ≡ written bits j → t ≡ true → (o : Origin) → o ≡ pickOf moves n w c j → o ≡ originBy moves n w z bits c j
+  unfolding originBy
   through h t p q o e = e ∙ rw (← pv, ← ps, lt-leb v s h, sym p ∙ q)
 
-  pub not-through : s < v → (t : Bool) → t ≡ written bits j → t ≡ false → (o : Origin) → o ≡ maskedOff (x .zeroing) j → o ≡ originOf x bits c j
-  unfolding originOf
+  pub not-through : s < v → (t : Bool) → t ≡ written bits j → t ≡ false → (o : Origin) → o ≡ maskedOff z j → o ≡ originBy moves n w z bits c j
+  unfolding originBy
   not-through h t p q o e = e ∙ rw (← pv, ← ps, lt-leb v s h, sym p ∙ q)

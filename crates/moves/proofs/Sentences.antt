@@ -20,7 +20,7 @@ use Rattle.isa.proofs.Sizes.{Lanes, element-divides, width-lanes, some-bytes, d
 use Rattle.decode.proofs.Ranges.{Fits}
 use Rattle.decode.specs.declared.instruction.Instruction.{Instruction}
 use Rattle.moves.specs.Pick.{perLane, groupStart, digit, lowHalves, laneOrZero, pickOf}
-use Rattle.moves.specs.Origin.{written, originOf}
+use Rattle.moves.specs.Origin.{written, originOf, originBy}
 use Rattle.moves.specs.declared.Origin.{Origin}
 use Rattle.moves.specs.declared.Origin.the-variants.{First, Third, Destination, Zero}
 
@@ -154,7 +154,7 @@ module _ (n v : ℕ) (d : n ∣ 16) (l : Lanes v) where
 -- every element of an accepted instruction comes from within its sources' width (decode's `accepted-range` has `Fits`)
 pub origin-within : (x : Instruction) (bits c j : ℕ) → Fits (x .moves) (elementBytes (x .element)) (widthBytes (x .width)) → j < widthBytes (x .width) / elementBytes (x .element)
     → Within (widthBytes (x .width) / elementBytes (x .element)) (originOf x bits c j)
-unfolding originOf
+unfolding originBy
 origin-within x bits c j f h =
     let n = elementBytes (x .element) in
     let v = widthBytes (x .width) in

@@ -7,6 +7,7 @@ use lib.ListN.{getD}
 use Rattle.seq.specs.Choice.{if_then_else_}
 use Rattle.isa.specs.Operands.{widthBytes, elementBytes}
 use Rattle.isa.specs.declared.kinds.Mask.{Mask}
+use Rattle.isa.specs.declared.operands.Move.{Move}
 use Rattle.decode.specs.declared.instruction.Instruction.{Instruction}
 use Rattle.moves.specs.Pick.{pickOf}
 use Rattle.moves.specs.declared.Origin.{Origin}
@@ -24,9 +25,12 @@ written bits j = eqb (bits / 2 ^ j % 2) 1
 abbrev pub maskedOff : Bool → ℕ → Origin
 maskedOff zeroing j = if zeroing then Zero else Destination j
 
--- an element that starts at the width or above it is zero; one that is let through is picked
-unfoldable pub originOf : Instruction → ℕ → ℕ → ℕ → Origin
-originOf x bits c j =
-    if leb (widthBytes (x .width)) (elementBytes (x .element) * j) then Zero
-    else if written bits j then pickOf (x .moves) (elementBytes (x .element)) (widthBytes (x .width)) c j
-    else maskedOff (x .zeroing) j
+-- by the move, the element's bytes n, the width's v, and z: an element that starts at the width or above it is zero; one that is let through is picked
+unfoldable pub originBy : Move → ℕ → ℕ → Bool → ℕ → ℕ → ℕ → Origin
+originBy moves n v zeroing bits c j =
+    if leb v (n * j) then Zero
+    else if written bits j then pickOf moves n v c j
+    else maskedOff zeroing j
+
+abbrev pub originOf : Instruction → ℕ → ℕ → ℕ → Origin
+originOf x = originBy (x .moves) (elementBytes (x .element)) (widthBytes (x .width)) (x .zeroing)

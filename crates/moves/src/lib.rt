@@ -5,10 +5,9 @@ ghost use lib.ListN.{getD};
 ghost use Rattle.isa.specs.Operands.{widthBytes, elementBytes, digitBits};
 ghost use Rattle.moves.specs.Pick.{perLane, groupStart, digit, picks, lowHalves, laneOrZero, pickOf};
 ghost use Rattle.moves.specs.Moved.{firstRegister, immediateByte};
-ghost use Rattle.moves.specs.Origin.{bitsOf, written, originOf, maskedOff};
+ghost use Rattle.moves.specs.Origin.{bitsOf, written, originBy, maskedOff};
 use decode::instruction::First;
 use decode::instruction::Immediate;
-use decode::instruction::Instruction;
 use isa::kinds::Mask;
 use isa::kinds::Reg;
 use isa::operands::Digits;
@@ -199,17 +198,22 @@ fn masked_off(zeroing: bool, j: u8) -> Origin
 }
 
 // Element j of the destination, for a control c and the elements that are written.
-pub fn origin_of(x: Instruction, bits: u64, c: u8, j: u8) -> Origin
-    ensures { λ r. ⌜ r ≡ originOf x bits c j ⌝ }
+pub fn origin_of(
+    moves: Move,
+    element: Element,
+    width: Width,
+    zeroing: bool,
+    bits: u64,
+    c: u8,
+    j: u8,
+) -> Origin
+    ensures { λ r. ⌜ r ≡ originBy moves (elementBytes element) (widthBytes width) zeroing bits c j ⌝ }
 {
-    let width = x.width;
-    let element = x.element;
-    let moves = x.moves;
     if width.bytes() as u32 <= element_start(element, j as u16) {
         return Origin::Zero;
     }
     if is_written(bits, j) {
         return pick(moves, element, width, c, j);
     }
-    masked_off(x.zeroing, j)
+    masked_off(zeroing, j)
 }

@@ -27,7 +27,7 @@ use Rattle.decode.specs.Cases.{Case, starredCases, furtherCases, starred-decode
 use Rattle.decode.specs.declared.instruction.Instruction.{Instruction}
 use Rattle.decode.specs.declared.instruction.Decoded.{Decoded}
 use Rattle.moves.specs.Pick.{digit, lowHalves, laneOrZero, pickOf}
-use Rattle.moves.specs.Origin.{bitsOf, written, originOf}
+use Rattle.moves.specs.Origin.{bitsOf, written, originOf, originBy}
 use Rattle.moves.specs.Moved.{thirdPart, controlAt, entryOf, moved}
 use Rattle.moves.specs.Mappable.{mappable}
 use Rattle.moves.proofs.Laws.{moved-at, mappable-moves}
@@ -81,7 +81,7 @@ all-by [] t = tt
 all-by (r ∷ rs) t = let a = both-true (ranTest (decodeOf (r .bytes) 31) r) (runsTest rs) t in (ran-by r (decodeOf (r .bytes) 31) refl (a .0), all-by rs (a .1))
 
 runs-test : runsTest runs ≡ true
-unfolding runs tabulate entryOf controlAt originOf pickOf lowHalves laneOrZero digit bitsOf written decodeOf knownOf onHead onRow onTotal finishOf headOf prefixSize prefixOf fixedBits rows findIn matchesRow matchesW sibSize displacementSize checkOf wrongW wrongWidth wrongVvvv wrongBroadcast wrongZeroing enoughOf neededOf hasFeature instructionOf encodingOf firstOf thirdOf immediateOf widthOf elementOf digitsOf moveFrom controlOf
+unfolding runs tabulate entryOf controlAt originBy pickOf lowHalves laneOrZero digit bitsOf written decodeOf knownOf onHead onRow onTotal finishOf headOf prefixSize prefixOf fixedBits rows findIn matchesRow matchesW sibSize displacementSize checkOf wrongW wrongWidth wrongVvvv wrongBroadcast wrongZeroing enoughOf neededOf hasFeature instructionOf encodingOf firstOf thirdOf immediateOf widthOf elementOf digitsOf moveFrom controlOf
 runs-test = refl
 
 pub all-ran : AllRan runs
@@ -157,11 +157,11 @@ all-moved (c ∷ cs) e t = (
 )
 
 starred-test : (k : List ℕ) → test k starredCases ≡ true
-unfolding starredCases identity tabulate mappable entryOf controlAt originOf pickOf lowHalves laneOrZero digit bitsOf written
+unfolding starredCases identity tabulate mappable entryOf controlAt originBy pickOf lowHalves laneOrZero digit bitsOf written
 starred-test k = refl
 
 further-test : (k : List ℕ) → test k furtherCases ≡ true
-unfolding furtherCases identity tabulate mappable entryOf controlAt originOf pickOf lowHalves laneOrZero digit bitsOf written
+unfolding furtherCases identity tabulate mappable entryOf controlAt originBy pickOf lowHalves laneOrZero digit bitsOf written
 further-test k = refl
 
 pub starred-move : Moves starredCases

@@ -12,7 +12,7 @@ use Rattle.isa.specs.Kinds.{fileSize}
 use Rattle.isa.specs.Operands.{widthBytes, elementBytes}
 use Rattle.isa.proofs.Sizes.{element-divides, width-lanes, some-bytes, starts-above}
 use Rattle.decode.specs.declared.instruction.Instruction.{Instruction}
-use Rattle.moves.specs.Origin.{originOf}
+use Rattle.moves.specs.Origin.{originOf, originBy}
 use Rattle.moves.specs.Moved.{held, firstRegister, repeated, immediateByte, controlBy, controlAt, entryOf}
 use Rattle.moves.proofs.Placed.{part-entry}
 use Rattle.moves.specs.declared.Origin.{Origin}
@@ -69,7 +69,7 @@ module _ (x : Instruction) (bits : ℕ) (first third old : List ℕ) where
 
   -- a lane from the width on is zero
   above-zero : (i : ℕ) → widthBytes (x .width) ≤ i → partsByte x bits first third old i ≡ 0
-  unfolding partsByte originOf
+  unfolding partsByte originBy
   above-zero i h = rw (le-leb (widthBytes (x .width)) (n * (i / n)) (starts-above n (element-divides (x .element)) _ (width-lanes (x .width)) i h))
 
   pub zero-lane : (l v : ℕ) → v ≡ widthBytes (x .width) → v ≤ 16 * l → replicate 16 0 ≡ tabulate 16 (λ b. partsByte x bits first third old (16 * l + b))

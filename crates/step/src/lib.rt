@@ -82,9 +82,12 @@ fn origin_at(x: Instruction, bits: u64, first: &[u8], third: &[u8], j: u8) -> Or
 {
     let from = x.control;
     let immediate = x.immediate;
+    let moves = x.moves;
     let element = x.element;
+    let width = x.width;
     let start = moves::element_start(element, j as u16);
-    moves::origin_of(x, bits, control(from, immediate, first, third, start), j)
+    let c = control(from, immediate, first, third, start);
+    moves::origin_of(moves, element, width, x.zeroing, bits, c, j)
 }
 
 // An origin as a part, and as an element of it. Zero is a part with no bytes.
