@@ -6,7 +6,8 @@ use Rattle.isa.specs.Operands.{elementBytes}
 use Rattle.isa.specs.declared.refusal.Refusal.the-variants.{Unmappable}
 use Rattle.decode.specs.declared.instruction.Instruction.{Instruction}
 use Rattle.decode.specs.declared.instruction.Decoded.{Decoded}
-use Rattle.moves.specs.Moved.{registerAt, firstRegister, thirdPart, repeated, held, entryOf}
+use Rattle.moves.specs.Origin.{originOf}
+use Rattle.moves.specs.Moved.{registerAt, firstRegister, thirdPart, repeated, immediateByte, controlBy, held, entryOf}
 use Rattle.moves.specs.declared.Origin.{Origin}
 use Rattle.run.specs.declared.Answer.{Answer}
 use Rattle.bytemap.specs.declared.Built.{Built}
@@ -14,6 +15,10 @@ use Rattle.bytemap.specs.declared.Built.{Built}
 abbrev pub refusedAt : ℕ → Decoded → Built
 refusedAt place (Decoded.Refused why) = record { place = place; answer = Answer.Refused why }
 refusedAt place (Decoded.Accepted x) = record { place = place; answer = Answer.Refused Unmappable }
+
+-- where element j comes from: no entry is a control
+abbrev pub originIn : Instruction → ℕ → ℕ → Origin
+originIn x bits j = originOf x bits (controlBy (x .control) (immediateByte (x .immediate)) 0 0) j
 
 -- entry b of what an element comes from, and entry i of the destination
 abbrev pub heldIn : Instruction → List ℕ → Origin → ℕ → ℕ

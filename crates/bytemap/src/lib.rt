@@ -11,7 +11,7 @@ ghost use Rattle.isa.specs.Operands.{elementBytes};
 ghost use Rattle.moves.specs.Moved.{registerAt, thirdPart, repeated, immediateByte, controlBy, placed};
 ghost use Rattle.moves.specs.Mappable.{inInstruction, inRegister, mappable};
 ghost use Rattle.bytemap.specs.Build.{buildSplit, scannedOf, identity, movedMap, mapOf, rightSizes, refusedBuild, buildOf, mapOnAnswer, mapBuilt};
-ghost use Rattle.bytemap.specs.Inner.{refusedAt, heldIn, entryIn};
+ghost use Rattle.bytemap.specs.Inner.{refusedAt, originIn, heldIn, entryIn};
 ghost use Rattle.bytemap.specs.ByteMap.{fine, applied, composed, applyOf, fileApplied, composeOf, mapComposed};
 use decode::instruction::Decoded;
 use decode::instruction::Immediate;
@@ -277,29 +277,34 @@ fn held_entry(x: Instruction, from: Origin, map: &[u16], b: u8) -> u16
     }
 }
 
-// The destination's entry i.
-fn entry(x: Instruction, bits: u64, map: &[u16], i: u8) -> u16
-    requires { ⌜ length (now map) ≡ mapEntries ⌝ }
-    ensures { λ r. ⌜ r ≡ entryIn x bits (now (map .entry)) i ⌝ }
+// Where element j comes from.
+fn origin_at(x: Instruction, bits: u64, j: u8) -> Origin
+    ensures { λ r. ⌜ r ≡ originIn x bits j ⌝ }
 {
     let from = x.control;
     let immediate = x.immediate;
     let moves = x.moves;
     let element = x.element;
     let width = x.width;
-    let n = element.bytes();
     let c = control(from, immediate);
-    let origin = moves::origin_of(moves, element, width, x.zeroing, bits, c, i / n);
-    held_entry(x, origin, map, i % n)
+    moves::origin_of(moves, element, width, x.zeroing, bits, c, j)
 }
 
+// The destination's entries. The origin is looked for at an element's first entry alone.
 fn entries(x: Instruction, bits: u64, map: &[u16]) -> [u16; 64]
     requires { ⌜ length (now map) ≡ mapEntries ⌝ }
     ensures { λ r. ⌜ r ≡ tabulate 64 (entryIn x bits (now (map .entry))) ⌝ }
 {
+    let element = x.element;
+    let n = element.bytes();
     let mut new = [0u16; 64];
-    for i in 0..64 {
-        new[i] = entry(x, bits, map, i as u8);
+    let mut from = Origin::Zero;
+    for i in 0..64u8 {
+        let k = i % n;
+        if k == 0 {
+            from = origin_at(x, bits, i / n);
+        }
+        new[i as usize] = held_entry(x, from, map, k);
     }
     new
 }

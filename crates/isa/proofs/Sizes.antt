@@ -1,9 +1,9 @@
 -- The sizes of elements and widths, gone through once: an element's bytes divide a lane of 16, and a width is whole lanes. What else is said of
 -- sizes is said of every n that divides 16.
-use Prim.Native.Nat.{ℕ, _*_, _/_, _<_, _≤_, _∣_}
-use mathlib.Core.Path.{_≡_, refl}
+use Prim.Native.Nat.{ℕ, _+_, _*_, _/_, _%_, _<_, _≤_, _∣_}
+use mathlib.Core.Path.{_≡_, refl, sym}
 use native.Mathlib.Omega.{arith}
-use native.Mathlib.Nat.{dvd-of-mod-eq-zero, dvd-trans, le-of-dvd, pos-of-dvd-of-pos, le-div-iff-mul-le, mul-div-cancel', div-mul-cancel, mul-le-mul-left, lt-of-mul-lt-mul-left}
+use native.Mathlib.Nat.{div-add-mod, mod-lt, div-eq-of-lt-le, mul-comm, dvd-of-mod-eq-zero, dvd-trans, le-of-dvd, pos-of-dvd-of-pos, le-div-iff-mul-le, mul-div-cancel', div-mul-cancel, mul-le-mul-left, lt-of-mul-lt-mul-left}
 use lib.Dec.{lit≤}
 use Rattle.isa.specs.Operands.{widthBytes, elementBytes}
 use Rattle.isa.specs.declared.operands.Width.{Width}
@@ -26,6 +26,14 @@ pub width-lanes : (w : Width) → Lanes (widthBytes w)
 width-lanes Bits128 = record { whole = dvd-of-mod-eq-zero 16 refl; least = lit≤ tt; most = lit≤ tt }
 width-lanes Bits256 = record { whole = dvd-of-mod-eq-zero 16 refl; least = lit≤ tt; most = lit≤ tt }
 width-lanes Bits512 = record { whole = dvd-of-mod-eq-zero 16 refl; least = lit≤ tt; most = lit≤ tt }
+
+-- the next byte is of the same element, unless it starts one
+pub same-element : (n i : ℕ) → 0 < n → ((i + 1) % n ≡ 0 → ⊥) → (i + 1) / n ≡ i / n
+same-element n i h g =
+    let q = (i + 1) / n in
+    let e = div-add-mod (i + 1) n in
+    let m = mul-comm q n in
+    sym (div-eq-of-lt-le n (omega arith) (omega (arith, mod-lt (i + 1) h)))
 
 module _ (n : ℕ) (d : n ∣ 16) where
   pub some-bytes : 0 < n

@@ -3,14 +3,14 @@ use Prim.Native.Nat.{ℕ, _+_, _-_, _*_, _/_, _%_, _<_, _≤_}
 use mathlib.Core.Path.{_≡_, refl, sym, _∙_, ap}
 use mathlib.Core.List.{List}
 use native.Mathlib.Omega.{arith}
-use native.Mathlib.Nat.{div-add-mod, mod-lt, div-eq-of-lt-le, mul-comm, add-zero, mod-eq-zero-of-dvd, dvd-mul-right-of-dvd}
+use native.Mathlib.Nat.{add-zero, mod-eq-zero-of-dvd, dvd-mul-right-of-dvd}
 use lib.ListN.{length, replicate, getD-replicate}
 use borrow.Author.Tests.{le-leb}
 use Rattle.seq.specs.Tabulate.{tabulate}
 use Rattle.seq.proofs.Tabulate.{is-tabulate}
 use Rattle.isa.specs.Kinds.{fileSize}
 use Rattle.isa.specs.Operands.{widthBytes, elementBytes}
-use Rattle.isa.proofs.Sizes.{element-divides, width-lanes, some-bytes, starts-above}
+use Rattle.isa.proofs.Sizes.{element-divides, width-lanes, some-bytes, same-element, starts-above}
 use Rattle.decode.specs.declared.instruction.Instruction.{Instruction}
 use Rattle.moves.specs.Origin.{originOf, originBy}
 use Rattle.moves.specs.Moved.{held, firstRegister, repeated, immediateByte, controlBy, controlAt, entryOf}
@@ -18,14 +18,6 @@ use Rattle.moves.proofs.Placed.{part-entry}
 use Rattle.moves.specs.declared.Origin.{Origin}
 use Rattle.moves.specs.declared.Origin.the-variants.{First, Third, Destination, Zero}
 use Rattle.step.specs.Inner.{byteOf, registerPart, originAt, originPart, originElement, partsByte}
-
--- the next byte is of the same element, unless it starts one
-same-element : (n i : ℕ) → 0 < n → ((i + 1) % n ≡ 0 → ⊥) → (i + 1) / n ≡ i / n
-same-element n i h g =
-    let q = (i + 1) / n in
-    let e = div-add-mod (i + 1) n in
-    let m = mul-comm q n in
-    sym (div-eq-of-lt-le n (omega arith) (omega (arith, mod-lt (i + 1) h)))
 
 -- byte b of an element, in the part that its origin stands for
 element-byte : (n : ℕ) (first third old : List ℕ) (o : Origin) (b : ℕ)
