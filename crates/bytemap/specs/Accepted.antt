@@ -1,5 +1,4 @@
--- The words of demand 3 (document 01, "Lists, sheets, listing"): a list is accepted, under masks and features, exactly when building refuses nothing
--- for 2,048 entries to write to.
+-- Rule 9.2: a list is accepted, under masks and features, exactly when building refuses nothing for 2,048 entries to write to.
 use Prim.Native.Nat.{ℕ}
 use mathlib.Core.Path.{_≡_}
 use mathlib.Core.List.{List}

@@ -1,5 +1,5 @@
--- Document 01, "Lists, sheets, listing": building a list's map. A step is refused as decoding refuses it, and then where no byte map can say what it
--- does. The map of an accepted list is what its steps make of the map that moves nothing, whose entries move as bytes do.
+-- Rules 7.2 to 7.6: building a list's map. A step is refused as decoding refuses it, and then where no byte map can say what it does. The map of an
+-- accepted list is what its steps make of the map that moves nothing, whose entries move as bytes do.
 use Prim.Native.Nat.{ℕ}
 use mathlib.Core.Bool.{Bool}
 use mathlib.Core.List.{List, [], _∷_}
@@ -18,18 +18,18 @@ use Rattle.run.specs.Split.{Split, split}
 use Rattle.run.specs.declared.Answer.{Answer}
 use Rattle.bytemap.specs.declared.Built.{Built}
 
--- the whole list: no list has more steps than bytes
+-- rule 7.2: the whole list. No list has more steps than bytes
 unfoldable pub buildSplit : List ℕ → ℕ → Split
 buildSplit code features = split mappable Unmappable features (length code) code
 
 unfoldable pub scannedOf : List ℕ → ℕ → Built
 scannedOf code features = record { place = buildSplit code features .place; answer = buildSplit code features .answer }
 
--- the map that moves nothing
+-- rule 7.4: the map that moves nothing
 unfoldable pub identity : List ℕ
 identity = tabulate mapEntries (λ p. p)
 
--- a step on a map: its entries move, and none of them is a control
+-- rule 7.4: a step on a map. Its entries move, and none of them is a control
 abbrev pub movedMap : Instruction → List ℕ → List ℕ → List ℕ
 movedMap x masks m = moved (λ e. 0) zeroEntry x masks [] m
 
@@ -47,7 +47,7 @@ rightSizes masks m features = both (eqb masks maskCount) (both (eqb m mapEntries
 abbrev pub refusedBuild : Refusal → Built
 refusedBuild why = record { place = 0; answer = Answer.Refused why }
 
--- sizes and features, then the list's length, then the steps. `masks` and `m` are lengths
+-- rules 7.2 and 7.5: sizes and features, then the list's length, then the steps. `masks` and `m` are lengths
 unfoldable pub buildOf : List ℕ → ℕ → ℕ → ℕ → Built
 buildOf code masks features m =
     if rightSizes masks m features then (if leb (length code) codeLimit then scannedOf code features else refusedBuild TooLong)
@@ -57,7 +57,7 @@ abbrev pub mapOnAnswer : Answer → List ℕ → List ℕ → List ℕ
 mapOnAnswer Answer.Done built m = built
 mapOnAnswer (Answer.Refused why) built m = m
 
--- the map that is written; a refusal changes no entry
+-- rule 7.6: the map that is written. A refusal changes no entry
 unfoldable pub mapBuilt : List ℕ → List ℕ → ℕ → List ℕ → List ℕ
 mapBuilt code masks features m =
     if rightSizes (length masks) (length m) features then

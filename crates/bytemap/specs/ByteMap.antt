@@ -1,6 +1,5 @@
--- Document 01, "Lists, sheets, listing": a byte map (the paper's route sheet) has an entry for each byte of a register file: the offset that the
--- byte comes from, or 2,048 for a zero. Reading past the end of a file gives 0, and past the end of a map the entry for zero, so that 2,048
--- stays what it is.
+-- Rules 7.1 and 7.7 to 7.9: a byte map has an entry for each byte of a register file: the offset that the byte comes from, or 2,048 for a zero.
+-- Reading past the end of a file gives 0, and past the end of a map the entry for zero, so that 2,048 stays what it is.
 use Prim.Native.Nat.{ℕ}
 use mathlib.Core.Bool.{Bool, true}
 use mathlib.Core.List.{List, [], _∷_, map}
@@ -11,7 +10,7 @@ use Rattle.isa.specs.Kinds.{fileSize, mapEntries, zeroEntry}
 use Rattle.isa.specs.declared.refusal.Refusal.the-variants.{Argument, BadEntry}
 use Rattle.run.specs.declared.Answer.{Answer}
 
--- no entry is over 2,048
+-- answer 9: whether no entry is over 2,048
 unfoldable pub fine : List ℕ → Bool
 fine [] = true
 fine (e ∷ m) = both (leb e zeroEntry) (fine m)
@@ -23,15 +22,15 @@ readByte file e = getD file e 0
 abbrev pub readEntry : List ℕ → ℕ → ℕ
 readEntry m e = getD m e zeroEntry
 
--- byte i becomes the byte of the starting file that entry i names
+-- rule 7.7: byte i becomes the byte of the starting file that entry i names
 unfoldable pub applied : List ℕ → List ℕ → List ℕ
 applied m file = map (readByte file) m
 
--- the first map's moves, then the second's: an entry of the second becomes what the first has there
+-- rule 7.8: the first map's moves, then the second's. An entry of the second becomes what the first has there
 unfoldable pub composed : List ℕ → List ℕ → List ℕ
 composed first second = map (readEntry first) second
 
--- applying: the sizes are answer 1, an entry over 2,048 is 9. `file` is a length, as `out` is below
+-- rule 7.7: the sizes are answer 1, an entry over 2,048 is 9. `file` is a length, as `out` is below
 unfoldable pub applyOf : List ℕ → ℕ → Answer
 applyOf m file =
     if both (eqb (length m) mapEntries) (eqb file fileSize) then
@@ -42,7 +41,7 @@ unfoldable pub fileApplied : List ℕ → List ℕ → List ℕ
 fileApplied m file =
     if both (eqb (length m) mapEntries) (eqb (length file) fileSize) then (if fine m then applied m file else file) else file
 
--- composing: likewise, of all three maps' sizes and of the two maps that are read
+-- rule 7.8: likewise, of all three maps' sizes and of the two maps that are read
 unfoldable pub composeOf : List ℕ → List ℕ → ℕ → Answer
 composeOf first second out =
     if both (eqb (length first) mapEntries) (both (eqb (length second) mapEntries) (eqb out mapEntries)) then

@@ -1,4 +1,4 @@
--- Document 01, "Lists, sheets, listing": route sheets, which are called byte maps here.
+-- Section 7 of the rules, and rule 9.2: byte maps.
 pub mod ByteMap
 pub mod Build
 pub mod Accepted

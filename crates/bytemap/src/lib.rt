@@ -1,4 +1,4 @@
-// Byte maps (document 01: route sheets): for each byte of a register file, the byte of a starting file that it comes from, or zero.
+// Byte maps: for each byte of a register file, the byte of a starting file that it comes from, or zero.
 ghost use mathlib.Core.Path.{_≡_};
 ghost use mathlib.Core.List.{[]};
 ghost use Prim.Native.Nat.{_+_, _*_, _%_, _≤_};

@@ -1,4 +1,4 @@
-// Document 01, "Bytes tried at the bench": each line decoded and carried out, with the origin of every byte of the destination.
+// The worked cases of docs/RULES.md, each decoded and carried out, with the origin of every byte of the destination.
 ghost use Prim.Native.Nat.{_<_, _≤_};
 ghost use lib.ListN.{getD};
 ghost use Rattle.isa.specs.Kinds.{fileSize};

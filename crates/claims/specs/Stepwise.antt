@@ -1,5 +1,5 @@
--- What a run is in terms of the step function, whose promise cites stepOf and fileAfter: as many steps of it as the run counts, and then a reason to
--- stop. `a-run-is-its-steps` in proofs/Stepwise.antt says so of every list that answers 1 and 8 let pass.
+-- Rules 6.3 to 6.6: a run in terms of the step function, whose promise cites stepOf and fileAfter. It is as many steps of it as the run counts, and
+-- then a reason to stop. `a-run-is-its-steps` in proofs/Stepwise.antt says so of every list that answers 1 and 8 let pass.
 use Prim.Native.Nat.{ℕ, _+_, _<_, _≤_}
 use mathlib.Core.Path.{_≡_}
 use mathlib.Core.List.{List, []}

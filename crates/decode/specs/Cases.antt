@@ -1,5 +1,6 @@
--- The worked cases of the rules: what decoding gives and, where the case says so, where the destination's bytes come from. The starred ones, all
--- with features 31, then further ones: those that are not starred, cases in which two rules meet, and single rules that no starred case looks at.
+-- The worked cases at the end of docs/RULES.md: what decoding gives and, where the case says so, where the destination's bytes come from. The starred
+-- ones, all with features 31, then further ones: those that are not starred, cases in which two rules meet, and single rules that no starred case
+-- looks at.
 use Prim.Native.Nat.{ℕ, _+_, _*_}
 use mathlib.Core.Path.{_≡_, refl}
 use mathlib.Core.Bool.{Bool, true, false}
@@ -153,9 +154,9 @@ starredCases =
     ∷ case (0x62 ∷ 0xF2 ∷ 0x6D ∷ 0x58 ∷ 0x8D ∷ 0x08 ∷ []) 31 4 (wrong Broadcast)
     ∷ []
 
--- cases 13 to 16; then, in the order of rule 5.3: features over the limit; fixed bits before an unknown opcode; EVEX with another W; short bytes
--- before a wrong width and before a missing feature; W, V' and vvvv; a wrong field before a missing feature; the feature of a row, and the one
--- that is not asked for besides; AVX512VL
+-- cases 13 to 16, and VPERM2F128 by 21; then, in the order of rule 5.3: features over the limit; fixed bits before an unknown opcode; EVEX with
+-- another W, and with its own; short bytes before a wrong width and before a missing feature; W, V' and vvvv; a wrong field before a missing feature;
+-- the feature of a row, and the one that is not asked for besides; AVX512VL
 unfoldable pub furtherCases : List Case
 furtherCases =
     case (0xC4 ∷ 0xE2 ∷ 0x69 ∷ 0x0D ∷ 0xCB ∷ []) 31 0 (ofThree vpermilpdRegister Vex Bits128 1 2 3 Immediate.Absent 5)

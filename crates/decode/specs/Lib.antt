@@ -1,4 +1,4 @@
--- Document 01's rules of decoding, in its order.
+-- Section 2 of the rules, and decoding in section 5.
 pub mod Prefix
 pub mod Modrm
 pub mod Reserved

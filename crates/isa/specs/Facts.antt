@@ -1,4 +1,4 @@
--- Sentences of the rules that speak of the whole table. Each is a test of a row, and every row passes it.
+-- Rules 3.5 to 3.7, 4.5 to 4.7 and 5.7, and the W of table 3.1, said of the whole table: each is a test of a row, and every row passes it.
 use Prim.Native.Nat.{ℕ, _*_, _^_}
 use mathlib.Core.Path.{_≡_, refl}
 use mathlib.Core.Bool.{Bool, true, not}
@@ -52,7 +52,7 @@ controlled row =
     else if named vpermilpd row then controlNumber Control.Third
     else controlNumber Control.Nowhere)
 
--- rules 4.6 and 4.7: digits of b bits name the elements of a lane, so that 2 ^ b elements are one; of a control in a register, bit 1 is the first
+-- rules 4.6 and 4.7: digits of b bits name the elements of a group, so that 2 ^ b elements fill it; of a control in a register, bit 1 is the first
 -- that counts for quadwords
 abbrev pub digits : Row → Bool
 digits row =

@@ -1,4 +1,4 @@
--- The instruction set of document 01.
+-- Sections 1 and 3 of the rules, and the numbers of the answers (rule 5.1).
 pub mod Kinds
 pub mod Features
 pub mod Refusal

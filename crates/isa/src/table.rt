@@ -1,4 +1,4 @@
-// The instruction table of document 01, a decoding row a line, and its search.
+// The instruction table (rule 3.1), a decoding row a line, and its search.
 ghost use mathlib.Core.Path.{_≡_};
 ghost use Prim.Native.Nat.{_<_};
 ghost use lib.ListN.{length, getD};

@@ -1,4 +1,4 @@
-// Prints the listing of the instructions on standard input. Input of over 4,096 bytes prints nothing.
+// Rule 8.8: prints the listing of the list on standard input, and nothing for one over 4,096 bytes.
 use isa::kinds::Code;
 use isa::kinds::Text;
 use libc::STDIN_FILENO;

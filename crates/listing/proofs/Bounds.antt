@@ -1,4 +1,5 @@
--- How long a listing can be: a line has at most 25 bytes, and a list of at most 4,096 bytes at most 1,024 lines. With the headings that is 25,624 bytes.
+-- Rule 8.6, how long a listing can be: a line has at most 25 bytes, and a list of at most 4,096 bytes at most 1,024 lines. With the headings that is
+-- 25,624 bytes.
 use Prim.Native.Nat.{ℕ, zero, suc, _+_, _*_, _/_, _%_, _^_, _<_, _≤_}
 use mathlib.Core.Path.{_≡_, refl, ap}
 use mathlib.Core.Bool.{Bool, true, false}

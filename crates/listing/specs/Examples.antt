@@ -1,4 +1,4 @@
--- Document 01, "Lists, sheets, listing": its example, with a step and a refused one, and the empty list. Both are proved by computing.
+-- Rules 8.7 and 8.4: the example, with a step and a refused one, and the empty list. Both are proved by computing.
 use mathlib.Core.Path.{_≡_, refl}
 use mathlib.Core.List.{[], _∷_}
 use Rattle.isa.specs.Features.{hasFeature}

@@ -1,4 +1,4 @@
--- Document 01, "Lists, sheets, listing": the listing.
+-- Section 8 of the rules: the listing.
 pub mod Text
 pub mod Listing
 pub mod Inner

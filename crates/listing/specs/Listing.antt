@@ -1,4 +1,4 @@
--- Document 01, "Lists, sheets, listing": a list of instructions as text. Headings, a line for each step, and a line for the refusal if there is one.
+-- Rules 8.1 to 8.5: a list of instructions as text. Headings, a line for each step, and a line for the refusal if there is one.
 use Prim.Native.Nat.{ℕ, _+_, _*_}
 use mathlib.Core.Bool.{true}
 use mathlib.Core.List.{List, [], _∷_, _++_}
@@ -22,7 +22,7 @@ use Rattle.listing.specs.declared.Listed.{Listed}
 abbrev pub headings : List ℕ
 headings = ascii "at\tlen\tname\tbits\tanswer\n"
 
--- rule 3.8: the names in the order of their numbers. A refused step has number 0, and a dash
+-- rules 3.8 and 8.3: the names in the order of their numbers. A refused step has number 0, and a dash
 abbrev pub names : List (List ℕ)
 names =
     ascii "-"
@@ -36,7 +36,7 @@ names =
 abbrev pub nameText : Mnemonic → List ℕ
 nameText m = getD names (mnemonicNumber m) (ascii "-")
 
--- a tab after a field, and a newline after the last
+-- rule 8.3: a tab after a field, and a newline after the last
 abbrev pub field : List ℕ → List ℕ
 field text = text ++ ascii "\t"
 
@@ -52,7 +52,7 @@ acceptedLine place x = record { place = place; length = x .length; name = x .mne
 abbrev pub refusedLine : ℕ → Refusal → Line
 refusedLine place why = record { place = place; length = 0; name = none; bits = 0; status = statusOf why }
 
--- every step that decodes is wanted, memory or not, so that Argument is not given here
+-- rule 8.2: every step that decodes is wanted, memory or not, so that Argument is not given here
 unfoldable pub listedSplit : List ℕ → Split
 listedSplit code = split (λ x. true) Argument allFeatures (length code) code
 
@@ -72,14 +72,14 @@ listingText code = let s = listedSplit code in headings ++ (stepLines 0 (s .inst
 abbrev pub refusedListing : Refusal → Listed
 refusedListing why = record { written = 0; answer = Answer.Refused why }
 
--- the size of the text, then the list's length. A list with a refused step is listed like others. `text` is a length
+-- rules 8.1 and 8.4: the size of the text, then the list's length. A list with a refused step is listed like others. `text` is a length
 unfoldable pub listingOf : List ℕ → ℕ → Listed
 listingOf code text =
     if leb textLeast text then
     (if leb (length code) codeLimit then record { written = length (listingText code); answer = Answer.Done } else refusedListing TooLong)
     else refusedListing Argument
 
--- what the text holds afterwards: the listing in front, and behind it what was there
+-- rule 8.5: what the text holds afterwards, the listing in front, and behind it what was there
 unfoldable pub textAfter : List ℕ → List ℕ → List ℕ
 textAfter code text =
     if leb textLeast (length text) then

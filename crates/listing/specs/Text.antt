@@ -1,4 +1,4 @@
--- Text as bytes of ASCII: what stands between quotes, and decimal numbers.
+-- Rule 8.3: text as bytes of ASCII, what stands between quotes, and decimal numbers.
 use Prim.Native.Nat.{ℕ, zero, suc, _+_, _/_, _%_}
 use Prim.Native.Char.{code}
 use Prim.Native.String.{String, [] as end, _∷_ as _then_}

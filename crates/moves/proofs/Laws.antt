@@ -1,6 +1,6 @@
--- The laws of what a step moves: it changes its destination alone, and clears what is above the width; an element that the mask does not let
--- through stays, or is cleared; unmasked, the old destination does not matter; mask bits past the last element do not matter; and it moves entries
--- whatever they stand for.
+-- The laws of what a step moves, rules 4.12 to 4.16: it changes its destination alone, and clears what is above the width; an element that the mask
+-- does not let through stays, or is cleared; unmasked, the old destination does not matter; mask bits past the last element do not matter. And it
+-- moves entries whatever they stand for, which rule 7.4 needs.
 use Prim.Native.Nat.{ℕ, _+_, _-_, _*_, _/_, _%_, _^_, _<_, _≤_}
 use mathlib.Core.Path.{_≡_, refl, sym, _∙_, ap}
 use mathlib.Core.Bool.{Bool, true, false}

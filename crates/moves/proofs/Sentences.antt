@@ -1,5 +1,5 @@
--- The manual's sentences, one for each instruction: its move at its own element's size. And no pick of an accepted instruction leaves the elements of
--- its sources.
+-- Rules 4.6 to 4.10 as the manual has them, a sentence for each instruction: its move at its own element's size. And no pick of an accepted
+-- instruction leaves the elements of its sources.
 use Prim.Native.Nat.{ℕ, zero, suc, _+_, _-_, _*_, _/_, _%_, _^_, _<_, _≤_, _∣_}
 use mathlib.Core.Path.{_≡_, refl, sym, _∙_}
 use mathlib.Core.Bool.{Bool}
@@ -52,7 +52,7 @@ pub vpermb-takes : (v c j : ℕ) → pickOf Anywhere 1 v c j ≡ Third (c % v)
 unfolding pickOf
 vpermb-takes v c j = rw (div-one v)
 
--- VUNPCKLPS: S1[0], S2[0], S1[1], S2[1] of the lane
+-- VUNPCKLPS: in each lane doubleword h of the first source, and behind it the third operand's
 pub vunpcklps-takes-first : (v c l h : ℕ) → h < 2 → pickOf LowHalves 4 v c (4 * l + 2 * h) ≡ First (4 * l + h)
 unfolding pickOf lowHalves
 vunpcklps-takes-first v c l h b =

@@ -1,5 +1,5 @@
--- The moves computed: all elements of a full result, for one control. VPSHUFD 1B of 256 bits, VPERMILPD 05 of 256 bits, VPERMILPD by the controls 1
--- and 2, VPERMB by 65, VUNPCKLPS of 256 bits, and VPERM2F128 by 21, 30 and 88.
+-- Rules 4.6 to 4.10, 4.12 and 4.13, computed: all elements of a full result, for one control. VPSHUFD 1B of 256 bits, VPERMILPD 05 of 256 bits,
+-- VPERMILPD by the controls 1 and 2, VPERMB by 65, VUNPCKLPS of 256 bits, and VPERM2F128 by 21, 30 and 88. Then masks.
 use Prim.Native.Nat.{ℕ, _/_}
 use mathlib.Core.Path.{_≡_, refl}
 use mathlib.Core.Bool.{true, false}

@@ -18,7 +18,7 @@ use Rattle.moves.specs.Origin.{bitsOf, originOf}
 use Rattle.moves.specs.declared.Origin.{Origin}
 use Rattle.moves.specs.declared.Origin.the-variants.{First, Third, Destination, Zero}
 
--- byte i of a register
+-- rule 1.2: byte i of a register
 abbrev pub registerAt : {A : Type 0} → A → List A → Reg → ℕ → A
 registerAt z file r i = getD file (offsetOf r i .0) z
 
@@ -27,12 +27,12 @@ abbrev pub firstRegister : FirstSource.First → Reg
 firstRegister (FirstSource.First.Register r) = r
 firstRegister FirstSource.First.Absent = record { 0 = 0 }
 
--- the third operand is a part of the file, or the memory
+-- rule 4.3: the third operand, as a part of the file or as the memory
 abbrev pub thirdPart : {A : Type 0} → ThirdOperand.Third → List A → List A → List A
 thirdPart (ThirdOperand.Third.Register r) memory file = take registerBytes (drop (offsetOf r 0 .0) file)
 thirdPart (ThirdOperand.Third.Memory bytes) memory file = memory
 
--- byte i of it; a broadcast element is repeated
+-- rule 4.3: byte i of it; a broadcast element is repeated
 abbrev pub repeated : {A : Type 0} → A → List A → ℕ → A
 repeated z part i = getD part (i % length part) z
 
@@ -53,25 +53,25 @@ controlAt byte z x part file j =
     (byte (registerAt z file (firstRegister (x .first)) (elementBytes (x .element) * j)))
     (byte (repeated z part (elementBytes (x .element) * j)))
 
--- byte b of what an element of n bytes comes from
+-- rule 4.2: byte b of what an element of n bytes comes from
 abbrev pub held : {A : Type 0} → A → ℕ → (ℕ → A) → (ℕ → A) → (ℕ → A) → Origin → ℕ → A
 held z n first third old (First p) b = first (n * p + b)
 held z n first third old (Third p) b = third (n * p + b)
 held z n first third old (Destination p) b = old (n * p + b)
 held z n first third old Zero b = z
 
--- byte i of the destination after the step: byte i % n of what element i / n comes from
+-- rule 4.2: byte i of the destination after the step is byte i % n of what element i / n comes from
 unfoldable pub entryOf : {A : Type 0} → (A → ℕ) → A → Instruction → ℕ → List A → List A → ℕ → A
 entryOf byte z x bits part file i =
     let n = elementBytes (x .element) in
     held z n (registerAt z file (firstRegister (x .first))) (repeated z part) (registerAt z file (x .destination))
     (originOf x bits (controlAt byte z x part file (i / n)) (i / n)) (i % n)
 
--- a file with new bytes in register r, and every other register as it was
+-- rule 4.16: a file with new bytes in register r, and every other register as it was
 unfoldable pub placed : {A : Type 0} → A → List A → ℕ → (ℕ → A) → ℕ → A
 placed z file r new p = if eqb (p / registerBytes) r then new (p % registerBytes) else getD file p z
 
--- the file after the step. All of it is read from the file before the step
+-- rule 4.1: the file after the step. All of it is read from the file before the step
 unfoldable pub moved : {A : Type 0} → (A → ℕ) → A → Instruction → List ℕ → List A → List A → List A
 moved byte z x masks memory file =
     tabulate (length file)

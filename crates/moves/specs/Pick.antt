@@ -10,11 +10,11 @@ use Rattle.isa.specs.declared.operands.Move.the-variants.{ByDigit, InLane, Anyw
 use Rattle.moves.specs.declared.Origin.{Origin}
 use Rattle.moves.specs.declared.Origin.the-variants.{First, Third, Zero}
 
--- elements of n bytes in a lane
+-- rule 4.5: elements of n bytes in a lane
 abbrev pub perLane : ℕ → ℕ
 perLane n = 16 / n
 
--- the first element of j's group, where every g elements are a group
+-- rule 4.5: the first element of j's group, where every g elements are a group
 abbrev pub groupStart : ℕ → ℕ → ℕ
 groupStart g j = j - j % g
 
@@ -22,7 +22,7 @@ groupStart g j = j - j % g
 unfoldable pub digit : ℕ → ℕ → ℕ → ℕ
 digit b c j = c / 2 ^ (b * (j % (8 / b))) % 2 ^ b
 
--- the four digits of two bits
+-- rule 4.6: the four digits of two bits
 abbrev pub picks : ℕ → List ℕ
 picks c = c % 4 ∷ c / 4 % 4 ∷ c / 16 % 4 ∷ c / 64 % 4 ∷ []
 
@@ -38,6 +38,7 @@ laneOrZero s =
     else if eqb (s / 2 % 2) 0 then First (s % 2)
     else Third (s % 2)
 
+-- rules 4.6 to 4.10, in this order
 unfoldable pub pickOf : Move → ℕ → ℕ → ℕ → ℕ → Origin
 pickOf (ByDigit digits group) n v c j = Third (groupStart (widthBytes group / n) j + digit (digitBits digits) c j)
 pickOf (InLane bit) n v c j = First (groupStart (perLane n) j + c / 2 ^ bit % perLane n)

@@ -1,5 +1,5 @@
--- The laws of runs: how many steps there are and how far they come, which budget is enough, what more budget changes, a run in two parts, and a run
--- of one step.
+-- The laws of runs, rules 6.4 to 6.8: how many steps there are and how far they come, which budget is enough, what more budget changes, a run in two
+-- parts, and a run of one step.
 use Prim.Native.Nat.{ℕ, _+_, _*_, _<_, _≤_}
 use mathlib.Core.Path.{_≡_, refl, sym, _∙_, ap}
 use mathlib.Core.Bool.{Bool, true, false}

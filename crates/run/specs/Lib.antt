@@ -1,3 +1,3 @@
--- Document 01, "Lists, sheets, listing": lists, and runs.
+-- Section 6 of the rules: lists, and runs.
 pub mod Split
 pub mod Run

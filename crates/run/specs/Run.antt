@@ -1,5 +1,5 @@
--- Document 01, "Lists, sheets, listing": running a list. The steps, the place and the answer are those of the list's split under the budget, and the
--- file after them is what those steps give, each on the file that the one before it left.
+-- Rules 6.2 to 6.6: running a list. The steps, the place and the answer are those of the list's split under the budget, and the file after them is
+-- what those steps give, each on the file that the one before it left.
 use Prim.Native.Nat.{ℕ}
 use mathlib.Core.Bool.{Bool}
 use mathlib.Core.List.{List, [], _∷_}
@@ -17,23 +17,23 @@ use Rattle.run.specs.Split.{Split, split}
 use Rattle.run.specs.declared.Answer.{Answer}
 use Rattle.run.specs.declared.Ran.{Ran}
 
--- a budget that reaches the end, or a refusal, of every list that answer 8 lets pass
+-- rule 6.7: a budget that reaches the end, or a refusal, of every list that answer 8 lets pass
 abbrev pub wholeBudget : ℕ
 wholeBudget = 1024
 
--- no memory comes with a list, so that a memory form is refused as one of the wrong length
+-- rule 6.3: no memory comes with a list, so that a memory form is refused as one of the wrong length
 abbrev pub withoutMemory : Instruction → Bool
 withoutMemory x = eqb 0 (wantedOf (x .third))
 
 unfoldable pub runSplit : List ℕ → ℕ → ℕ → Split
 runSplit code features budget = split withoutMemory MemoryLength features budget code
 
--- the file after some steps
+-- rule 6.6: the file after some steps
 unfoldable pub filesOf : List Instruction → List ℕ → List ℕ → List ℕ
 filesOf [] masks file = file
 filesOf (x ∷ xs) masks file = filesOf xs masks (movedFile x masks [] file)
 
--- how far a run comes, and the file that it leaves
+-- rule 6.5: how far a run comes, and the file that it leaves
 unfoldable pub steppedRun : List ℕ → ℕ → ℕ → Ran
 steppedRun code features budget =
     let s = runSplit code features budget in record { steps = length (s .instructions); place = s .place; answer = s .answer }
@@ -44,7 +44,7 @@ steppedFile code masks features budget file = filesOf (runSplit code features bu
 abbrev pub refusedRun : Refusal → Ran
 refusedRun why = record { steps = 0; place = 0; answer = Answer.Refused why }
 
--- sizes and features, then the list's length, then the steps. `file` and `masks` are lengths
+-- rule 6.2: sizes and features, then the list's length, then the steps. `file` and `masks` are lengths
 unfoldable pub runOf : List ℕ → ℕ → ℕ → ℕ → ℕ → Ran
 runOf code file masks features budget =
     if both (sizesRight file masks) (featuresKnown features) then

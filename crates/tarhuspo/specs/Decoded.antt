@@ -1,4 +1,4 @@
--- A decoding as the C interface gives it: document 01's answer, and the operands as numbers. A refusal has no other number than its answer.
+-- Rule 5.12: a decoding as the C interface gives it, the answer's number (rule 5.1) and the operands as numbers. A refusal has its answer alone.
 use Prim.Native.Nat.{ℕ, _*_}
 use mathlib.Core.Bool.{Bool}
 use Rattle.seq.specs.Choice.{if_then_else_}

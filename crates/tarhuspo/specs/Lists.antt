@@ -1,4 +1,4 @@
--- The answers about lists, byte maps and listings as the C interface gives them.
+-- Rules 6.5, 7.5 and 8.4: the answers about lists, byte maps and listings as the C interface gives them.
 use Prim.Native.Nat.{ℕ}
 use Rattle.isa.specs.Refusal.{statusOf}
 use Rattle.run.specs.declared.Answer.{Answer}

@@ -1,4 +1,4 @@
--- A step's answer as the C interface gives it. A refused step has length 0.
+-- Rule 5.13: a step's answer as the C interface gives it. A refused step has length 0.
 use Rattle.isa.specs.Refusal.{statusOf}
 use Rattle.step.specs.declared.Stepped.{Stepped}
 use Rattle.tarhuspo.specs.declared.TarhuspoStepped.{TarhuspoStepped}
