@@ -154,9 +154,9 @@ starredCases =
     ∷ case (0x62 ∷ 0xF2 ∷ 0x6D ∷ 0x58 ∷ 0x8D ∷ 0x08 ∷ []) 31 4 (wrong Broadcast)
     ∷ []
 
--- cases 13 to 16, and VPERM2F128 by 21; then, in the order of rule 5.3: features over the limit; fixed bits before an unknown opcode; EVEX with
--- another W, and with its own; short bytes before a wrong width and before a missing feature; W, V' and vvvv; a wrong field before a missing feature;
--- the feature of a row, and the one that is not asked for besides; AVX512VL
+-- cases 13 to 16, VPERM2F128 by 21, and a destination that is its own source; then, in the order of rule 5.3: features over the limit; fixed bits
+-- before an unknown opcode; EVEX with another W, and with its own; short bytes before a wrong width and before a missing feature; W, V' and vvvv; a
+-- wrong field before a missing feature; the feature of a row, and the one that is not asked for besides; AVX512VL
 unfoldable pub furtherCases : List Case
 furtherCases =
     case (0xC4 ∷ 0xE2 ∷ 0x69 ∷ 0x0D ∷ 0xCB ∷ []) 31 0 (ofThree vpermilpdRegister Vex Bits128 1 2 3 Immediate.Absent 5)
@@ -165,6 +165,7 @@ furtherCases =
     ∷ moving (0xC4 ∷ 0xE3 ∷ 0x6D ∷ 0x06 ∷ 0xCB ∷ 0x88 ∷ []) 31 (ofThree vperm2f128 Vex Bits256 1 2 3 (Immediate.Byte 0x88) 6) (cleared 64)
     ∷ moving (0xC4 ∷ 0xE3 ∷ 0x6D ∷ 0x06 ∷ 0xCB ∷ 0x21 ∷ []) 31 (ofThree vperm2f128 Vex Bits256 1 2 3 (Immediate.Byte 0x21) 6)
     (qword 2 2 ++ qword 2 3 ++ qword 3 0 ++ qword 3 1 ++ cleared 32)
+    ∷ moving (0xC5 ∷ 0xF9 ∷ 0x70 ∷ 0xC9 ∷ 0x1B ∷ []) 31 (byImmediate vpshufd Vex Bits128 1 (register 1) 0 false false 0x1B 5) (turned 1 0 ++ cleared 48)
     ∷ case [] 32 1 (Refused Argument)
     ∷ case (0x62 ∷ 0xFD ∷ 0x7D ∷ 0x48 ∷ 0xFF ∷ []) 31 4 (wrong FixedBits)
     ∷ case (0x62 ∷ 0xF2 ∷ 0xED ∷ 0x48 ∷ 0x8D ∷ 0xCB ∷ []) 31 3 (Refused Unlisted)
