@@ -2,3 +2,4 @@
 pub mod Decoded
 pub mod Stepped
 pub mod Lists
+pub mod Cases
