@@ -3,6 +3,7 @@ mod Rules
 pub mod Laws
 pub mod Acceptance
 pub mod Lists
+pub mod Refusals
 mod Building
 mod Fine
 mod Scanning

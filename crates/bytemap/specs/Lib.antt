@@ -3,3 +3,4 @@ pub mod ByteMap
 pub mod Build
 pub mod Accepted
 pub mod Inner
+pub mod Examples

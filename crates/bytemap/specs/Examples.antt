@@ -1,0 +1,95 @@
+-- Section 7 of the rules: worked examples of byte maps, proved by computing.
+use Prim.Native.Nat.{ℕ, _+_, _*_}
+use mathlib.Core.Path.{_≡_, refl}
+use mathlib.Core.List.{List, [], _∷_, _++_}
+use lib.ListN.{replicate, take, drop}
+use Rattle.seq.specs.Tabulate.{tabulate}
+use Rattle.isa.specs.Kinds.{registerBytes, fileSize, maskCount, mapEntries, zeroEntry}
+use Rattle.isa.specs.Features.{hasFeature}
+use Rattle.isa.specs.Operands.{mnemonicOf, widthOf, elementOf, digitsOf, moveFrom, controlOf}
+use Rattle.isa.specs.Table.{rows, findIn, matchesRow, matchesW}
+use Rattle.isa.specs.declared.refusal.Refusal.the-variants.{Argument, Truncated, Unlisted, Unmappable, TooLong, BadEntry}
+use Rattle.decode.specs.Prefix.{prefixSize, prefixOf, fixedBits, headOf}
+use Rattle.decode.specs.Modrm.{sibSize, displacementSize}
+use Rattle.decode.specs.Reserved.{wrongW, wrongWidth, wrongVvvv, wrongBroadcast, wrongZeroing, checkOf, neededOf, enoughOf}
+use Rattle.decode.specs.Instruction.{encodingOf, firstOf, thirdOf, immediateOf, instructionOf}
+use Rattle.decode.specs.Decode.{finishOf, onTotal, onRow, onHead, knownOf, decodeOf}
+use Rattle.decode.specs.Cases.{dword, turned, cleared}
+use Rattle.moves.specs.Pick.{digit, pickOf}
+use Rattle.moves.specs.Origin.{bitsOf, written, originOf}
+use Rattle.moves.specs.Moved.{controlAt, entryOf, placed, moved}
+use Rattle.moves.specs.Mappable.{mappable}
+use Rattle.run.specs.Split.{split}
+use Rattle.run.specs.declared.Answer.{Answer}
+use Rattle.bytemap.specs.ByteMap.{fine, applied, composed, applyOf, fileApplied, composeOf, mapComposed}
+use Rattle.bytemap.specs.Build.{buildSplit, scannedOf, identity, mapsOf, mapOf, buildOf, mapBuilt}
+use Rattle.bytemap.specs.declared.Built.{Built}
+
+-- ---- building: the place and the answer
+
+abbrev pub built : ℕ → Answer → Built
+built place answer = record { place = place; answer = answer }
+
+-- the list of the runs' examples, whose third step wants memory
+abbrev pub list : List ℕ
+list = 0xC5 ∷ 0xF9 ∷ 0x70 ∷ 0xCA ∷ 0x1B ∷ 0xC5 ∷ 0xE8 ∷ 0x14 ∷ 0xCB ∷ 0xC5 ∷ 0xF9 ∷ 0x70 ∷ 0x08 ∷ 0x1B ∷ []
+
+abbrev pub builds : List ℕ → Built
+builds code = buildOf code 8 31 2048
+
+-- that list, its first two steps, cut off within the second, and empty; VPERMILPD and VPERMB with their control in a register
+pub steps : builds list ∷ builds (take 9 list) ∷ builds (take 8 list) ∷ builds [] ∷ builds (0xC4 ∷ 0xE2 ∷ 0x69 ∷ 0x0D ∷ 0xCB ∷ []) ∷ builds (0x62 ∷ 0xF2 ∷ 0x6D ∷ 0x48 ∷ 0x8D ∷ 0xCB ∷ []) ∷ []
+    ≡ built 9 (Answer.Refused Unmappable)
+    ∷ built 9 Answer.Done
+    ∷ built 5 (Answer.Refused Truncated)
+    ∷ built 0 Answer.Done
+    ∷ built 0 (Answer.Refused Unmappable)
+    ∷ built 0 (Answer.Refused Unmappable)
+    ∷ []
+unfolding buildOf scannedOf buildSplit split mappable decodeOf knownOf onHead onRow onTotal finishOf headOf prefixSize prefixOf fixedBits rows findIn matchesRow matchesW sibSize displacementSize checkOf wrongW wrongWidth wrongVvvv wrongBroadcast wrongZeroing enoughOf neededOf hasFeature instructionOf encodingOf firstOf thirdOf immediateOf mnemonicOf widthOf elementOf digitsOf moveFrom controlOf
+steps = refl
+
+-- a list of as many bytes as may be, of one more, and that with wrong masks, a wrong map or wrong features
+pub order : buildOf (replicate 4096 0) 8 31 2048 ∷ buildOf (replicate 4097 0) 8 31 2048 ∷ buildOf (replicate 4097 0) 7 31 2048 ∷ buildOf (replicate 4097 0) 8 31 2047 ∷ buildOf (replicate 4097 0) 8 32 2048 ∷ []
+    ≡ built 0 (Answer.Refused Unlisted) ∷ built 0 (Answer.Refused TooLong) ∷ replicate 3 (built 0 (Answer.Refused Argument))
+unfolding buildOf scannedOf buildSplit split decodeOf knownOf prefixSize prefixOf headOf onHead
+order = refl
+
+-- ---- building: the entries. VPSHUFD turns xmm2 round into xmm1, and a second one xmm1 into xmm3
+
+abbrev pub twice : List ℕ
+twice = 0xC5 ∷ 0xF9 ∷ 0x70 ∷ 0xCA ∷ 0x1B ∷ 0xC5 ∷ 0xF9 ∷ 0x70 ∷ 0xD9 ∷ 0x1B ∷ []
+
+-- registers 1, 2 and 3
+pub entries : take (3 * registerBytes) (drop registerBytes (mapBuilt twice (replicate maskCount 0) 31 (replicate mapEntries 0)))
+    ≡ (turned 2 0 ++ cleared 48) ++ tabulate 64 (λ b. 2 * registerBytes + b) ++ (dword 2 0 ++ dword 2 1 ++ dword 2 2 ++ dword 2 3 ++ cleared 48)
+unfolding mapBuilt mapOf mapsOf identity tabulate moved placed entryOf controlAt originOf pickOf digit bitsOf written buildSplit split mappable decodeOf knownOf onHead onRow onTotal finishOf headOf prefixSize prefixOf fixedBits rows findIn matchesRow matchesW sibSize displacementSize checkOf wrongW wrongWidth wrongVvvv wrongBroadcast wrongZeroing enoughOf neededOf hasFeature instructionOf encodingOf firstOf thirdOf immediateOf mnemonicOf widthOf elementOf digitsOf moveFrom controlOf
+entries = refl
+
+-- ---- applying and composing
+
+-- as many entries of e as a map has
+abbrev pub all : ℕ → List ℕ
+all e = replicate mapEntries e
+
+-- the second byte goes to the front, the third becomes zero
+pub moves : applied (1 ∷ 0 ∷ zeroEntry ∷ []) (7 ∷ 8 ∷ 9 ∷ []) ∷ composed (5 ∷ 6 ∷ zeroEntry ∷ []) (1 ∷ 0 ∷ zeroEntry ∷ []) ∷ [] ≡ (8 ∷ 7 ∷ 0 ∷ []) ∷ (6 ∷ 5 ∷ zeroEntry ∷ []) ∷ []
+unfolding applied composed
+moves = refl
+
+-- of whole size: byte 1 to every place; entry 1 of the first map where the second has 1
+pub wholes : take 2 (fileApplied (all 1) (6 ∷ 7 ∷ replicate 2046 8)) ∷ take 2 (mapComposed (5 ∷ 4 ∷ replicate 2046 8) (all 1) (all 9)) ∷ [] ≡ (7 ∷ 7 ∷ []) ∷ (4 ∷ 4 ∷ []) ∷ []
+unfolding fileApplied mapComposed applied composed fine
+wholes = refl
+
+-- the zero is an entry, one more is none; the sizes come first
+pub answers : applyOf (all 2048) 2048 ∷ applyOf (all 2049) 2048 ∷ applyOf (all 2049) 2047 ∷ applyOf (replicate 2047 2049) 2048 ∷ []
+    ≡ Answer.Done ∷ Answer.Refused BadEntry ∷ replicate 2 (Answer.Refused Argument)
+unfolding applyOf fine
+answers = refl
+
+pub answers-composing : composeOf (all 2048) (all 2048) 2048 ∷ composeOf (all 2049) (all 0) 2048 ∷ composeOf (all 0) (all 2049) 2048
+    ∷ composeOf (all 2049) (all 0) 2047 ∷ composeOf (replicate 2047 2049) (all 0) 2048 ∷ composeOf (all 2049) (replicate 2047 0) 2048 ∷ []
+    ≡ Answer.Done ∷ Answer.Refused BadEntry ∷ Answer.Refused BadEntry ∷ replicate 3 (Answer.Refused Argument)
+unfolding composeOf fine
+answers-composing = refl
