@@ -6,7 +6,7 @@ use lib.ListN.{replicate, take, drop}
 use Rattle.seq.specs.Tabulate.{tabulate}
 use Rattle.isa.specs.Kinds.{registerBytes, fileSize, maskCount, mapEntries, zeroEntry}
 use Rattle.isa.specs.Features.{hasFeature}
-use Rattle.isa.specs.Operands.{mnemonicOf, widthOf, elementOf, digitsOf, moveFrom, controlOf}
+use Rattle.isa.specs.Operands.{widthOf, elementOf, digitsOf, moveFrom, controlOf}
 use Rattle.isa.specs.Table.{rows, findIn, matchesRow, matchesW}
 use Rattle.isa.specs.declared.refusal.Refusal.the-variants.{Argument, Truncated, Unlisted, Unmappable, TooLong, BadEntry}
 use Rattle.decode.specs.Prefix.{prefixSize, prefixOf, fixedBits, headOf}
@@ -16,7 +16,7 @@ use Rattle.decode.specs.Instruction.{encodingOf, firstOf, thirdOf, immediateOf,
 use Rattle.decode.specs.Decode.{finishOf, onTotal, onRow, onHead, knownOf, decodeOf}
 use Rattle.decode.specs.Cases.{dword, turned, cleared}
 use Rattle.moves.specs.Pick.{digit, pickOf}
-use Rattle.moves.specs.Origin.{bitsOf, written, originOf}
+use Rattle.moves.specs.Origin.{bitsOf, written, originBy}
 use Rattle.moves.specs.Moved.{controlAt, entryOf, placed, moved}
 use Rattle.moves.specs.Mappable.{mappable}
 use Rattle.run.specs.Split.{split}
@@ -46,7 +46,7 @@ pub steps : builds list ∷ builds (take 9 list) ∷ builds (take 8 list) ∷ bu
     ∷ built 0 (Answer.Refused Unmappable)
     ∷ built 0 (Answer.Refused Unmappable)
     ∷ []
-unfolding buildOf scannedOf buildSplit split mappable decodeOf knownOf onHead onRow onTotal finishOf headOf prefixSize prefixOf fixedBits rows findIn matchesRow matchesW sibSize displacementSize checkOf wrongW wrongWidth wrongVvvv wrongBroadcast wrongZeroing enoughOf neededOf hasFeature instructionOf encodingOf firstOf thirdOf immediateOf mnemonicOf widthOf elementOf digitsOf moveFrom controlOf
+unfolding buildOf scannedOf buildSplit split mappable decodeOf knownOf onHead onRow onTotal finishOf headOf prefixSize prefixOf fixedBits rows findIn matchesRow matchesW sibSize displacementSize checkOf wrongW wrongWidth wrongVvvv wrongBroadcast wrongZeroing enoughOf neededOf hasFeature instructionOf encodingOf firstOf thirdOf immediateOf widthOf elementOf digitsOf moveFrom controlOf
 steps = refl
 
 -- a list of as many bytes as may be, of one more, and that with wrong masks, a wrong map or wrong features
@@ -63,7 +63,7 @@ twice = 0xC5 ∷ 0xF9 ∷ 0x70 ∷ 0xCA ∷ 0x1B ∷ 0xC5 ∷ 0xF9 ∷ 0x70 ∷ 
 -- registers 1, 2 and 3
 pub entries : take (3 * registerBytes) (drop registerBytes (mapBuilt twice (replicate maskCount 0) 31 (replicate mapEntries 0)))
     ≡ (turned 2 0 ++ cleared 48) ++ tabulate 64 (λ b. 2 * registerBytes + b) ++ (dword 2 0 ++ dword 2 1 ++ dword 2 2 ++ dword 2 3 ++ cleared 48)
-unfolding mapBuilt mapOf mapsOf identity tabulate moved placed entryOf controlAt originOf pickOf digit bitsOf written buildSplit split mappable decodeOf knownOf onHead onRow onTotal finishOf headOf prefixSize prefixOf fixedBits rows findIn matchesRow matchesW sibSize displacementSize checkOf wrongW wrongWidth wrongVvvv wrongBroadcast wrongZeroing enoughOf neededOf hasFeature instructionOf encodingOf firstOf thirdOf immediateOf mnemonicOf widthOf elementOf digitsOf moveFrom controlOf
+unfolding mapBuilt mapOf mapsOf identity tabulate moved placed entryOf controlAt originBy pickOf digit bitsOf written buildSplit split mappable decodeOf knownOf onHead onRow onTotal finishOf headOf prefixSize prefixOf fixedBits rows findIn matchesRow matchesW sibSize displacementSize checkOf wrongW wrongWidth wrongVvvv wrongBroadcast wrongZeroing enoughOf neededOf hasFeature instructionOf encodingOf firstOf thirdOf immediateOf widthOf elementOf digitsOf moveFrom controlOf
 entries = refl
 
 -- ---- applying and composing

@@ -5,7 +5,7 @@ use mathlib.Core.Path.{_≡_, refl}
 use mathlib.Core.List.{List, [], _∷_}
 use lib.ListN.{replicate, take}
 use Rattle.isa.specs.Features.{hasFeature}
-use Rattle.isa.specs.Operands.{mnemonicOf, widthOf, elementOf, digitsOf, moveFrom, controlOf}
+use Rattle.isa.specs.Operands.{widthOf, elementOf, digitsOf, moveFrom, controlOf}
 use Rattle.isa.specs.Table.{rows, findIn, matchesRow, matchesW}
 use Rattle.isa.specs.declared.refusal.Refusal.the-variants.{Argument, Truncated, MemoryLength, TooLong}
 use Rattle.decode.specs.Prefix.{prefixSize, prefixOf, fixedBits, headOf}
@@ -39,7 +39,7 @@ pub steps : front 14 0 ∷ front 14 1 ∷ front 14 2 ∷ front 14 3 ∷ front 14
     ∷ ran 1 5 Answer.Done
     ∷ ran 0 0 Answer.Done
     ∷ []
-unfolding runOf steppedRun runSplit split decodeOf knownOf onHead onRow onTotal finishOf headOf prefixSize prefixOf fixedBits rows findIn matchesRow matchesW sibSize displacementSize checkOf wrongW wrongWidth wrongVvvv wrongBroadcast wrongZeroing enoughOf neededOf hasFeature instructionOf encodingOf firstOf thirdOf immediateOf mnemonicOf widthOf elementOf digitsOf moveFrom controlOf
+unfolding runOf steppedRun runSplit split decodeOf knownOf onHead onRow onTotal finishOf headOf prefixSize prefixOf fixedBits rows findIn matchesRow matchesW sibSize displacementSize checkOf wrongW wrongWidth wrongVvvv wrongBroadcast wrongZeroing enoughOf neededOf hasFeature instructionOf encodingOf firstOf thirdOf immediateOf widthOf elementOf digitsOf moveFrom controlOf
 steps = refl
 
 -- with a budget of 0: a list of as many bytes as may be, of one more, and that with a wrong file, wrong masks or wrong features
