@@ -1,19 +1,12 @@
 -- A row's columns carry the move and the control of its line in the table: read back, they are the same.
 use mathlib.Core.Path.{_≡_, refl}
-use Rattle.isa.specs.Operands.{widthOf, widthNumber, digitsOf, digitBits, moveFrom, moveKind, moveBits, moveGroup, controlOf, controlNumber}
-use Rattle.isa.specs.declared.operands.Width.{Width}
-use Rattle.isa.specs.declared.operands.Width.the-variants.{Bits128, Bits256, Bits512}
+use Rattle.isa.specs.Operands.{digitsOf, digitBits, moveFrom, moveKind, moveBits, moveGroup, controlOf, controlNumber}
 use Rattle.isa.specs.declared.operands.Digits.{Digits}
 use Rattle.isa.specs.declared.operands.Digits.the-variants.{One, Two, Four}
 use Rattle.isa.specs.declared.operands.Move.{Move}
 use Rattle.isa.specs.declared.operands.Move.the-variants.{ByDigit, InLane, Anywhere, LowHalves, LaneOrZero}
 use Rattle.isa.specs.declared.operands.Control.{Control}
-
-width-back : (w : Width) → widthOf (widthNumber w) ≡ w
-unfolding widthOf
-width-back Bits128 = refl
-width-back Bits256 = refl
-width-back Bits512 = refl
+use Rattle.isa.proofs.Sizes.{width-back}
 
 digits-back : (d : Digits) → digitsOf (digitBits d) ≡ d
 unfolding digitsOf

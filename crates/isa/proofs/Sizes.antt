@@ -2,10 +2,13 @@
 -- sizes is said of every n that divides 16.
 use Prim.Native.Nat.{ℕ, _+_, _*_, _/_, _%_, _<_, _≤_, _∣_}
 use mathlib.Core.Path.{_≡_, refl, sym}
+use mathlib.Core.Bool.{Bool, true, false}
 use native.Mathlib.Omega.{arith}
 use native.Mathlib.Nat.{div-add-mod, mod-lt, div-eq-of-lt-le, mul-comm, dvd-of-mod-eq-zero, dvd-trans, le-of-dvd, pos-of-dvd-of-pos, le-div-iff-mul-le, mul-div-cancel', div-mul-cancel, mul-le-mul-left, lt-of-mul-lt-mul-left}
-use lib.Dec.{lit≤}
-use Rattle.isa.specs.Operands.{widthBytes, elementBytes}
+use lib.Dec.{eqb, lit≤}
+use borrow.Author.Tests.{eqb-true, eqb-false}
+use Rattle.seq.specs.Choice.{if_then_else_}
+use Rattle.isa.specs.Operands.{widthOf, widthNumber, widthBytes, elementBytes}
 use Rattle.isa.specs.declared.operands.Width.{Width}
 use Rattle.isa.specs.declared.operands.Width.the-variants.{Bits128, Bits256, Bits512}
 use Rattle.isa.specs.declared.operands.Element.{Element}
@@ -26,6 +29,27 @@ pub width-lanes : (w : Width) → Lanes (widthBytes w)
 width-lanes Bits128 = record { whole = dvd-of-mod-eq-zero 16 refl; least = lit≤ tt; most = lit≤ tt }
 width-lanes Bits256 = record { whole = dvd-of-mod-eq-zero 16 refl; least = lit≤ tt; most = lit≤ tt }
 width-lanes Bits512 = record { whole = dvd-of-mod-eq-zero 16 refl; least = lit≤ tt; most = lit≤ tt }
+
+-- a width by its number in the field: read back, and no narrower where the number is no less
+pub width-back : (w : Width) → widthOf (widthNumber w) ≡ w
+unfolding widthOf
+width-back Bits128 = refl
+width-back Bits256 = refl
+width-back Bits512 = refl
+
+pub wider : (least width : ℕ) → least ≤ width → widthBytes (widthOf least) ≤ widthBytes (widthOf width)
+unfolding widthOf
+wider least width h = by (eqb least 0) refl (eqb least 1) refl (eqb width 0) refl (eqb width 1) refl
+  where
+    by : (a : Bool) → eqb least 0 ≡ a → (b : Bool) → eqb least 1 ≡ b → (c : Bool) → eqb width 0 ≡ c → (d : Bool) → eqb width 1 ≡ d
+        → widthBytes (if a then Bits128 else if b then Bits256 else Bits512) ≤ widthBytes (if c then Bits128 else if d then Bits256 else Bits512)
+    by true p b q c r d s = width-lanes (if c then Bits128 else if d then Bits256 else Bits512) .least
+    by false p true q true r d s = absurd (omega (arith, eqb-true least 1 q, eqb-true width 0 r))
+    by false p true q false r true s = lit≤ tt
+    by false p true q false r false s = lit≤ tt
+    by false p false q true r d s = absurd (omega (arith, eqb-false least 0 p, eqb-true width 0 r))
+    by false p false q false r true s = absurd (omega (arith, eqb-false least 0 p, eqb-false least 1 q, eqb-true width 1 s))
+    by false p false q false r false s = lit≤ tt
 
 -- the next byte is of the same element, unless it starts one
 pub same-element : (n i : ℕ) → 0 < n → ((i + 1) % n ≡ 0 → ⊥) → (i + 1) / n ≡ i / n

@@ -18,9 +18,9 @@ use Rattle.isa.specs.Operands.{widthBytes}
 use Rattle.isa.specs.Refusal.{statusOf}
 use Rattle.isa.specs.declared.operands.Mnemonic.{Mnemonic}
 use Rattle.isa.specs.declared.operands.Width.{Width}
-use Rattle.isa.specs.declared.operands.Width.the-variants.{Bits128, Bits256, Bits512}
 use Rattle.isa.specs.declared.refusal.Refusal.{Refusal}
 use Rattle.isa.specs.declared.refusal.Refusal.the-variants.{Argument, Truncated, Unlisted, Reserved, Feature, MemoryLength, Unmappable, TooLong, BadEntry}
+use Rattle.isa.proofs.Sizes.{width-lanes}
 use Rattle.decode.specs.Decode.{decodeOf}
 use Rattle.decode.proofs.Laws.{accepted-size}
 use Rattle.decode.specs.declared.instruction.Instruction.{Instruction}
@@ -71,9 +71,7 @@ name-most m = by-lt (m .0) (length names)
     (λ h. rw (List·getD-eq-default names (ascii "-") h) (omega arith))
 
 bits-most : (w : Width) → 8 * widthBytes w < 1000
-bits-most Bits128 = omega arith
-bits-most Bits256 = omega arith
-bits-most Bits512 = omega arith
+bits-most w = omega (arith, width-lanes w .most)
 
 status-most : (why : Refusal) → statusOf why < 10
 status-most Argument = omega arith
