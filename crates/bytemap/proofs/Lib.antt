@@ -7,4 +7,3 @@ pub mod Refusals
 mod Building
 mod Fine
 mod Scanning
-mod Storing

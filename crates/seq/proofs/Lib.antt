@@ -3,3 +3,4 @@ pub mod Cases
 pub mod Choice
 pub mod Tabulate
 pub mod Parts
+pub mod Storing

@@ -4,7 +4,7 @@ use native.Mathlib.Omega.{arith}
 use borrow.Author.Needs.{needs}
 use Rattle.isa.specs.Kinds.{mapEntries}
 use Rattle.bytemap.specs.Build.{identity}
-use Rattle.bytemap.proofs.Storing.{Storing, starts, stores, stored}
+use Rattle.seq.proofs.Storing.{Storing, starts, stores, stored}
 use Rattle.bytemap.proofs.fill_identity.Statement.{statement}
 use Rattle.bytemap.proofs.fill_identity.Tie as tie
 

@@ -7,7 +7,7 @@ use lib.ListN.{getD}
 use Rattle.seq.proofs.Tabulate.{tabulate-map}
 use Rattle.isa.specs.Kinds.{mapEntries}
 use Rattle.bytemap.specs.ByteMap.{composed, readEntry}
-use Rattle.bytemap.proofs.Storing.{Storing, starts, stores, stored}
+use Rattle.seq.proofs.Storing.{Storing, starts, stores, stored}
 use Rattle.bytemap.proofs.move_entries.Statement.{statement}
 use Rattle.bytemap.proofs.move_entries.Tie as tie
 
