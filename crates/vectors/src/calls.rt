@@ -1,16 +1,17 @@
-// A call of each entry point on one input: a record with little-endian fields, the code, and the pools. Each answers
-// whether the record is well formed.
+// A call of each entry point on one input: a record with little-endian fields, the code, and the pools.
+ghost use Prim.Native.Nat.{_≤_};
+ghost use mathlib.Core.Path.{_≡_};
+ghost use Rattle.vectors.specs.Digest.{digestOf};
+ghost use Rattle.vectors.specs.Calls.{mapAt, decodeLine, stepLine, runLine, buildLine, applyLine, composeLine, listingLine, lineOf};
 use crate::digest;
+use crate::digest::Digest;
 use crate::number::u16_at;
 use crate::number::u32_at;
 use crate::number::u64_at;
 use crate::pools;
-use crate::pools::fill_bytes;
-use crate::pools::fill_entries;
-use crate::pools::fill_masks;
-use crate::pools::fill_old;
-use crate::text::print_digest;
-use crate::text::print_number;
+use crate::pools::MASKS_ROOM;
+use crate::pools::ROOM;
+use crate::pools::TEXT_ROOM;
 use seq::byte_at;
 
 // Bytes of the longest record.
@@ -19,33 +20,52 @@ pub const RECORD_ROOM: usize = 20;
 // A buffer that may be written is passed without its first and last elements, and digested with them.
 const GUARD: usize = 8;
 
-const ROOM: usize = 2560;
-
 const MOST: usize = ROOM - 2 * GUARD;
-
-const TEXT_ROOM: usize = 26112;
 
 const TEXT_MOST: usize = TEXT_ROOM - 2 * GUARD;
 
-const MASKS_ROOM: usize = 16;
-
-const MEMORY_ROOM: usize = 256;
-
-fn print_file(file: &[u8; ROOM]) {
-    print_digest(digest::of_bytes(file));
+pub enum Entry {
+    Decode,
+    Step,
+    Run,
+    Build,
+    Apply,
+    Compose,
+    Listing,
 }
 
-fn print_text(text: &[u8; TEXT_ROOM]) {
-    print_digest(digest::of_bytes(text));
+// What is written for an input: the status, further numbers and the digest.
+pub enum Line {
+    // Nothing: the input is not there in full, or its record asks for more than there is room for.
+    Malformed,
+    Status(u32, Digest),
+    OneMore(u32, u64, Digest),
+    TwoMore(u32, u64, u64, Digest),
 }
 
-fn print_map(map: &[u16; ROOM]) {
-    print_digest(digest::of_entries(map));
+fn file_digest(file: &[u8; ROOM]) -> Digest
+    ensures { λ r. ⌜ r ≡ digestOf (now (file .entry)) ⌝ }
+{
+    digest::of_bytes(file)
+}
+
+fn text_digest(text: &[u8; TEXT_ROOM]) -> Digest
+    ensures { λ r. ⌜ r ≡ digestOf (now (text .entry)) ⌝ }
+{
+    digest::of_bytes(text)
+}
+
+fn map_digest(map: &[u16; ROOM]) -> Digest
+    ensures { λ r. ⌜ r ≡ digestOf (now (map .entry)) ⌝ }
+{
+    digest::of_entries(map)
 }
 
 // Record: features u32.
-pub fn decode(record: &[u8], code: &[u8]) -> bool {
-    let d = tarhuspo::tarhuspo_decode(code, u32_at(record, 0));
+fn decode(fields: &[u8], code: &[u8]) -> Line
+    ensures { λ r. ⌜ r ≡ decodeLine (now (fields .entry)) (now (code .entry)) ⌝ }
+{
+    let d = tarhuspo::tarhuspo_decode(code, u32_at(fields, 0));
     let numbers = [
         d.status,
         d.length,
@@ -62,173 +82,171 @@ pub fn decode(record: &[u8], code: &[u8]) -> bool {
         d.has_immediate,
         d.immediate,
     ];
-    print_number(d.status as u64);
-    print_number(d.length as u64);
-    print_digest(digest::of_numbers(&numbers));
-    true
+    Line::OneMore(d.status, d.length as u64, digest::of_numbers(&numbers))
 }
 
 // Record: features u32; file: start u16, length u16; masks: start u8, count u8; memory: start u16, length u8.
-pub fn step(record: &[u8], code: &[u8], pools: &[u8; pools::SIZE]) -> bool {
-    let size = u16_at(record, 6) as usize;
-    let count = byte_at(record, 9) as usize;
-    let wanted = byte_at(record, 12) as usize;
+fn step(fields: &[u8], code: &[u8], pools: &[u8; pools::SIZE]) -> Line
+    ensures { λ r. ⌜ r ≡ stepLine (now (fields .entry)) (now (code .entry)) (now (pools .entry)) ⌝ }
+{
+    let size = u16_at(fields, 6) as usize;
+    let count = byte_at(fields, 9) as usize;
+    let wanted = byte_at(fields, 12) as usize;
     if size > MOST {
-        return false;
+        return Line::Malformed;
     }
     if count > MASKS_ROOM {
-        return false;
+        return Line::Malformed;
     }
-    let mut file = [0u8; ROOM];
-    fill_bytes(pools, u16_at(record, 4), &mut file);
-    let mut masks = [0u64; MASKS_ROOM];
-    fill_masks(pools, byte_at(record, 8), &mut masks);
-    let mut memory = [0u8; MEMORY_ROOM];
-    fill_bytes(pools, u16_at(record, 10), &mut memory);
+    let mut file = pools::file(pools, u16_at(fields, 4));
+    let masks = pools::masks(pools, byte_at(fields, 8));
+    let memory = pools::memory(pools, u16_at(fields, 10));
     let end = GUARD + size;
     let stepped = tarhuspo::tarhuspo_step(
         code,
         &mut file[GUARD..end],
-        &masks[0..count],
-        u32_at(record, 0),
-        &memory[0..wanted],
+        &masks[..count],
+        u32_at(fields, 0),
+        &memory[..wanted],
     );
-    print_number(stepped.status as u64);
-    print_number(stepped.length as u64);
-    print_file(&file);
-    true
+    Line::OneMore(stepped.status, stepped.length as u64, file_digest(&file))
 }
 
 // Record: features u32, budget u64; file: start u16, length u16; masks: start u8, count u8.
-pub fn run(record: &[u8], code: &[u8], pools: &[u8; pools::SIZE]) -> bool {
-    let size = u16_at(record, 14) as usize;
-    let count = byte_at(record, 17) as usize;
+fn run(fields: &[u8], code: &[u8], pools: &[u8; pools::SIZE]) -> Line
+    ensures { λ r. ⌜ r ≡ runLine (now (fields .entry)) (now (code .entry)) (now (pools .entry)) ⌝ }
+{
+    let size = u16_at(fields, 14) as usize;
+    let count = byte_at(fields, 17) as usize;
     if size > MOST {
-        return false;
+        return Line::Malformed;
     }
     if count > MASKS_ROOM {
-        return false;
+        return Line::Malformed;
     }
-    let mut file = [0u8; ROOM];
-    fill_bytes(pools, u16_at(record, 12), &mut file);
-    let mut masks = [0u64; MASKS_ROOM];
-    fill_masks(pools, byte_at(record, 16), &mut masks);
+    let mut file = pools::file(pools, u16_at(fields, 12));
+    let masks = pools::masks(pools, byte_at(fields, 16));
     let end = GUARD + size;
     let ran = tarhuspo::tarhuspo_run(
         code,
         &mut file[GUARD..end],
-        &masks[0..count],
-        u32_at(record, 0),
-        u64_at(record, 4),
+        &masks[..count],
+        u32_at(fields, 0),
+        u64_at(fields, 4),
     );
-    print_number(ran.status as u64);
-    print_number(ran.steps);
-    print_number(ran.place);
-    print_file(&file);
-    true
+    Line::TwoMore(ran.status, ran.steps, ran.place, file_digest(&file))
 }
 
 // Record: features u32; map: start u16, length u16; masks: start u8, count u8.
-pub fn build(record: &[u8], code: &[u8], pools: &[u8; pools::SIZE]) -> bool {
-    let size = u16_at(record, 6) as usize;
-    let count = byte_at(record, 9) as usize;
+fn build(fields: &[u8], code: &[u8], pools: &[u8; pools::SIZE]) -> Line
+    ensures { λ r. ⌜ r ≡ buildLine (now (fields .entry)) (now (code .entry)) (now (pools .entry)) ⌝ }
+{
+    let size = u16_at(fields, 6) as usize;
+    let count = byte_at(fields, 9) as usize;
     if size > MOST {
-        return false;
+        return Line::Malformed;
     }
     if count > MASKS_ROOM {
-        return false;
+        return Line::Malformed;
     }
-    let mut map = [0u16; ROOM];
-    fill_old(u16_at(record, 4), &mut map);
-    let mut masks = [0u64; MASKS_ROOM];
-    fill_masks(pools, byte_at(record, 8), &mut masks);
+    let mut map = pools::old_entries(u16_at(fields, 4));
+    let masks = pools::masks(pools, byte_at(fields, 8));
     let end = GUARD + size;
     let built = tarhuspo::tarhuspo_bytemap_build(
         code,
-        &masks[0..count],
-        u32_at(record, 0),
+        &masks[..count],
+        u32_at(fields, 0),
         &mut map[GUARD..end],
     );
-    print_number(built.status as u64);
-    print_number(built.place);
-    print_map(&map);
-    true
+    Line::OneMore(built.status, built.place, map_digest(&map))
 }
 
-// Record of a map: start u16, length u16; place u16, entry u16. The entry at that place is set, if there is one.
-fn fill_map(record: &[u8], pools: &[u8; pools::SIZE], map: &mut [u16]) {
-    fill_entries(pools, u16_at(record, 0), map);
-    let place = u16_at(record, 4) as usize;
-    if place < map.len() {
-        map[place] = u16_at(record, 6);
+// Record of a map, from a place on: start u16, length u16; place u16, entry u16. The entry at that place is set, if there
+// is one.
+fn map(fields: &[u8], at: usize, pools: &[u8; pools::SIZE]) -> [u16; ROOM]
+    requires { ⌜ at ≤ 8 ⌝ }
+    ensures { λ r. ⌜ r ≡ mapAt (now (fields .entry)) (now (pools .entry)) at ⌝ }
+{
+    let mut map = pools::entries(pools, u16_at(fields, at));
+    let place = u16_at(fields, at + 4) as usize;
+    if place < ROOM {
+        map[place] = u16_at(fields, at + 6);
     }
+    map
 }
 
 // Record: a map; file: start u16, length u16.
-pub fn apply(record: &[u8], pools: &[u8; pools::SIZE]) -> bool {
-    let entries = u16_at(record, 2) as usize;
-    let size = u16_at(record, 10) as usize;
+fn apply(fields: &[u8], pools: &[u8; pools::SIZE]) -> Line
+    ensures { λ r. ⌜ r ≡ applyLine (now (fields .entry)) (now (pools .entry)) ⌝ }
+{
+    let entries = u16_at(fields, 2) as usize;
+    let size = u16_at(fields, 10) as usize;
     if entries > ROOM {
-        return false;
+        return Line::Malformed;
     }
     if size > MOST {
-        return false;
+        return Line::Malformed;
     }
-    let mut map = [0u16; ROOM];
-    fill_map(record, pools, &mut map);
-    let mut file = [0u8; ROOM];
-    fill_bytes(pools, u16_at(record, 8), &mut file);
+    let map = map(fields, 0, pools);
+    let mut file = pools::file(pools, u16_at(fields, 8));
     let end = GUARD + size;
-    let status = tarhuspo::tarhuspo_bytemap_apply(&map[0..entries], &mut file[GUARD..end]);
-    print_number(status as u64);
-    print_file(&file);
-    true
+    let status = tarhuspo::tarhuspo_bytemap_apply(&map[..entries], &mut file[GUARD..end]);
+    Line::Status(status, file_digest(&file))
 }
 
 // Record: the first map, the second map; output: start u16, length u16.
-pub fn compose(record: &[u8; RECORD_ROOM], pools: &[u8; pools::SIZE]) -> bool {
-    let first_entries = u16_at(record, 2) as usize;
-    let second_entries = u16_at(record, 10) as usize;
-    let size = u16_at(record, 18) as usize;
+fn compose(fields: &[u8], pools: &[u8; pools::SIZE]) -> Line
+    ensures { λ r. ⌜ r ≡ composeLine (now (fields .entry)) (now (pools .entry)) ⌝ }
+{
+    let first_entries = u16_at(fields, 2) as usize;
+    let second_entries = u16_at(fields, 10) as usize;
+    let size = u16_at(fields, 18) as usize;
     if first_entries > ROOM {
-        return false;
+        return Line::Malformed;
     }
     if second_entries > ROOM {
-        return false;
+        return Line::Malformed;
     }
     if size > MOST {
-        return false;
+        return Line::Malformed;
     }
-    let mut first = [0u16; ROOM];
-    fill_map(record, pools, &mut first);
-    let mut second = [0u16; ROOM];
-    let all: &[u8] = record;
-    fill_map(&all[8..], pools, &mut second);
-    let mut out = [0u16; ROOM];
-    fill_old(u16_at(record, 16), &mut out);
+    let first = map(fields, 0, pools);
+    let second = map(fields, 8, pools);
+    let mut out = pools::old_entries(u16_at(fields, 16));
     let end = GUARD + size;
     let status = tarhuspo::tarhuspo_bytemap_compose(
-        &first[0..first_entries],
-        &second[0..second_entries],
+        &first[..first_entries],
+        &second[..second_entries],
         &mut out[GUARD..end],
     );
-    print_number(status as u64);
-    print_map(&out);
-    true
+    Line::Status(status, map_digest(&out))
 }
 
 // Record: text: start u16, length u16.
-pub fn listing(record: &[u8], code: &[u8], pools: &[u8; pools::SIZE]) -> bool {
-    let size = u16_at(record, 2) as usize;
+fn listing(fields: &[u8], code: &[u8], pools: &[u8; pools::SIZE]) -> Line
+    ensures { λ r. ⌜ r ≡ listingLine (now (fields .entry)) (now (code .entry)) (now (pools .entry)) ⌝ }
+{
+    let size = u16_at(fields, 2) as usize;
     if size > TEXT_MOST {
-        return false;
+        return Line::Malformed;
     }
-    let mut text = [0u8; TEXT_ROOM];
-    fill_bytes(pools, u16_at(record, 0), &mut text);
+    let mut text = pools::text(pools, u16_at(fields, 0));
     let end = GUARD + size;
     let listed = tarhuspo::tarhuspo_listing(code, &mut text[GUARD..end]);
-    print_number(listed.status as u64);
-    print_number(listed.written);
-    print_text(&text);
-    true
+    Line::OneMore(listed.status, listed.written, text_digest(&text))
+}
+
+// What is written for an input of an entry point.
+pub fn call(entry: Entry, fields: &[u8], code: &[u8], pools: &[u8; pools::SIZE]) -> Line
+    ensures { λ r. ⌜ r ≡ lineOf entry (now (fields .entry)) (now (code .entry)) (now (pools .entry)) ⌝ }
+{
+    match entry {
+        Entry::Decode => decode(fields, code),
+        Entry::Step => step(fields, code, pools),
+        Entry::Run => run(fields, code, pools),
+        Entry::Build => build(fields, code, pools),
+        Entry::Apply => apply(fields, pools),
+        Entry::Compose => compose(fields, pools),
+        Entry::Listing => listing(fields, code, pools),
+    }
 }

@@ -4,26 +4,65 @@ mod calls;
 mod digest;
 mod number;
 mod pools;
-mod text;
 
+use calls::Entry;
+use calls::Line;
 use calls::RECORD_ROOM;
+use digest::Digest;
+use libc::STDOUT_FILENO;
 use number::u16_at;
-use text::print;
-use text::print_count;
 
 // Inputs of each entry point.
 const INPUTS: u64 = 20000;
 
 const CODE_ROOM: usize = 4352;
 
-enum Entry {
-    Decode,
-    Step,
-    Run,
-    Build,
-    Apply,
-    Compose,
-    Listing,
+fn print(text: &[u8]) {
+    io::write_all(STDOUT_FILENO, text);
+}
+
+fn print_number(number: u64) {
+    io::print_hex(STDOUT_FILENO, number, 1);
+    print(b" ");
+}
+
+fn print_digest(d: Digest) {
+    io::print_hex(STDOUT_FILENO, d.first, 8);
+    io::print_hex(STDOUT_FILENO, d.second, 8);
+    print(b"\n");
+}
+
+// How much there was of what has this name.
+fn print_count(name: &[u8], count: u64) {
+    print(name);
+    print(b" ");
+    io::print_decimal(STDOUT_FILENO, count);
+    print(b"\n");
+}
+
+// Answers whether there is a line.
+fn print_line(line: Line) -> bool {
+    match line {
+        Line::Malformed => {
+            return false;
+        }
+        Line::Status(status, digest) => {
+            print_number(status as u64);
+            print_digest(digest);
+        }
+        Line::OneMore(status, first, digest) => {
+            print_number(status as u64);
+            print_number(first);
+            print_digest(digest);
+        }
+        Line::TwoMore(status, first, second, digest) => {
+            print_number(status as u64);
+            print_number(first);
+            print_number(second);
+            print_digest(digest);
+        }
+    }
+    true
 }
 
 // Where the code of an input stands.
@@ -59,28 +98,19 @@ fn code_of(entry: Entry) -> Code {
     }
 }
 
-// Calls the entry point on an input, and answers whether the input is well formed.
-fn call(
+// The line of an input whose code is the first bytes of a buffer.
+fn line_of(
     entry: Entry,
     record: &[u8; RECORD_ROOM],
     room: &[u8; CODE_ROOM],
     length: usize,
     pools: &[u8; pools::SIZE],
-) -> bool {
+) -> Line {
     let all: &[u8] = room;
     if length > all.len() {
-        return false;
+        return Line::Malformed;
     }
-    let code = &all[0..length];
-    match entry {
-        Entry::Decode => calls::decode(record, code),
-        Entry::Step => calls::step(record, code, pools),
-        Entry::Run => calls::run(record, code, pools),
-        Entry::Build => calls::build(record, code, pools),
-        Entry::Apply => calls::apply(record, pools),
-        Entry::Compose => calls::compose(record, pools),
-        Entry::Listing => calls::listing(record, code, pools),
-    }
+    calls::call(entry, record, &all[0..length], pools)
 }
 
 fn read_record(fd: i32, size: usize, record: &mut [u8]) -> bool {
@@ -125,7 +155,7 @@ fn next(entry: Entry, inputs: i32, lists: i32, pools: &[u8; pools::SIZE]) -> boo
         Code::Listed => read_code(lists, &mut code),
         Code::Absent => 0,
     };
-    call(entry, &record, &code, length, pools)
+    print_line(line_of(entry, &record, &code, length, pools))
 }
 
 // Says so if the file goes on.
@@ -137,10 +167,8 @@ fn close_at_end(fd: i32) {
     libc::close(fd);
 }
 
-// Every input of an entry point, and how many there were.
-fn section(entry: Entry, name: &[u8], pools: &[u8; pools::SIZE]) {
-    let inputs = os::open_read(name);
-    let lists = os::open_read(b"lists");
+// Every input of an entry point. Answers how many there were.
+fn each(entry: Entry, inputs: i32, lists: i32, pools: &[u8; pools::SIZE]) -> u64 {
     let mut done: u64 = 0;
     while done < INPUTS {
         if !next(entry, inputs, lists, pools) {
@@ -148,14 +176,24 @@ fn section(entry: Entry, name: &[u8], pools: &[u8; pools::SIZE]) {
         }
         done += 1;
     }
-    print_count(name, done);
-    close_at_end(inputs);
+    done
+}
+
+fn close_lists(entry: Entry, lists: i32) {
     match code_of(entry) {
         Code::Listed => close_at_end(lists),
         _ => {
             libc::close(lists);
         }
     }
+}
+
+fn section(entry: Entry, name: &[u8], pools: &[u8; pools::SIZE]) {
+    let inputs = os::open_read(name);
+    let lists = os::open_read(b"lists");
+    print_count(name, each(entry, inputs, lists, pools));
+    close_at_end(inputs);
+    close_lists(entry, lists);
 }
 
 fn read_pools(pools: &mut [u8]) {

@@ -1,10 +1,13 @@
-use Prim.Native.Nat.{_-_, _≤_, _<_}
+use Prim.Native.Nat.{_-_}
+use mathlib.Core.Path.{refl}
+use native.Mathlib.Omega.{arith}
 use borrow.Author.Needs.{needs}
+use Rattle.vectors.proofs.Folding.{Folding, starts, folds, all}
 use Rattle.vectors.proofs.digest.of_numbers.Statement.{statement}
 use Rattle.vectors.proofs.digest.of_numbers.Tie as tie
 
 abbrev Inv-loop : tie.InvT-loop
-Inv-loop numbers d₀ i₀ i-end d i = (i ≤ i-end) × (d .first < 4294967291) × (d .second < 4294967291)
+Inv-loop numbers d₀ i₀ i-end d i = Folding numbers d i
 
 abbrev μ-loop : tie.MeasureT-loop
 μ-loop numbers d₀ i₀ i-end d i = i-end - i
@@ -15,12 +18,11 @@ of-numbers-spec =
     (tie.spec
     Inv-loop
     μ-loop
+    (λ c. starts _)
+    (λ c. search needs)
+    (λ c. search needs)
     (λ c κs. search needs)
     (λ c. search needs)
     (λ c. search needs)
-    (λ c. search needs)
-    (λ c κs. search needs)
-    (λ c. search needs)
-    (λ c. search needs)
-    (λ c. search needs)
-    (λ c. search needs))
+    (λ c. folds _ _ _ _ _ (c .before .before .before .loop .inv) (omega arith) refl (c .with .ensures))
+    (λ c. all _ _ _ (c .before .loop .inv) (omega arith)))

@@ -1,12 +1,15 @@
-use mathlib.Core.Path.{_≡_}
-use Prim.Native.Nat.{_-_, _≤_}
-use lib.ListN.{length}
+use Prim.Native.Nat.{_+_, _-_, _%_}
+use mathlib.Core.Path.{refl}
+use native.Mathlib.Nat.{add-mod-mod}
+use native.Mathlib.Omega.{arith}
 use borrow.Author.Needs.{needs}
+use lib.ListN.{length, getD}
+use Rattle.seq.proofs.Storing.{Storing, starts, stores, stored}
 use Rattle.vectors.proofs.pools.fill_bytes.Statement.{statement}
 use Rattle.vectors.proofs.pools.fill_bytes.Tie as tie
 
 abbrev Inv-loop : tie.InvT-loop
-Inv-loop pools start bytes₀ i₀ i-end bytes i = (i ≤ i-end) × (length bytes ≡ i-end)
+Inv-loop pools start bytes₀ i₀ i-end bytes i = Storing bytes₀ (λ k. getD pools ((start + k) % 65536) 0) (length bytes₀) bytes i
 
 abbrev μ-loop : tie.MeasureT-loop
 μ-loop pools start bytes₀ i₀ i-end bytes i = i-end - i
@@ -17,12 +20,12 @@ fill-bytes-spec =
     (tie.spec
     Inv-loop
     μ-loop
+    (λ c. starts _ _ _ refl)
     (λ c. search needs)
     (λ c. search needs)
     (λ c. search needs)
     (λ c. search needs)
     (λ c. search needs)
-    (λ c. search needs)
-    (λ c. search needs)
-    (λ c. search needs)
-    (λ c. search needs))
+    (λ c. stores _ _ _ refl _ _ _ (c .before .before .loop .inv) (omega arith) (rw add-mod-mod))
+    (λ c. c .before .loop .inv .size)
+    (λ c. stored _ _ _ refl _ _ (c .before .loop .inv) (omega arith)))
