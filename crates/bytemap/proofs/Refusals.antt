@@ -11,7 +11,7 @@ use Rattle.isa.specs.declared.refusal.Refusal.{Refusal}
 use Rattle.isa.specs.declared.refusal.Refusal.the-variants.{Argument, TooLong, BadEntry}
 use Rattle.run.specs.declared.Answer.{Answer}
 use Rattle.run.proofs.Splits.{no-done}
-use Rattle.bytemap.specs.ByteMap.{fine, applied, composed, applyOf, fileApplied, composeOf, mapComposed}
+use Rattle.bytemap.specs.ByteMap.{fine, applyOf, fileApplied, composeOf, mapComposed}
 use Rattle.bytemap.specs.Build.{buildSplit, scannedOf, mapOf, rightSizes, refusedBuild, buildOf, mapOnAnswer, mapBuilt}
 use Rattle.bytemap.specs.declared.Built.{Built}
 
@@ -35,9 +35,9 @@ keeps false u new old why e = refl
 
 pub applying-keeps : (m file : List ℕ) (why : Refusal) → applyOf m (length file) ≡ Answer.Refused why → fileApplied m file ≡ file
 unfolding applyOf fileApplied
-applying-keeps m file why e = keeps (both (eqb (length m) mapEntries) (eqb (length file) fileSize)) (fine m) (applied m file) file why e
+applying-keeps m file why e = keeps (both (eqb (length m) mapEntries) (eqb (length file) fileSize)) (fine m) _ file why e
 
 pub composing-keeps : (first second out : List ℕ) (why : Refusal) → composeOf first second (length out) ≡ Answer.Refused why → mapComposed first second out ≡ out
 unfolding composeOf mapComposed
 composing-keeps first second out why e =
-    keeps (both (eqb (length first) mapEntries) (both (eqb (length second) mapEntries) (eqb (length out) mapEntries))) (both (fine first) (fine second)) (composed first second) out why e
+    keeps (both (eqb (length first) mapEntries) (both (eqb (length second) mapEntries) (eqb (length out) mapEntries))) (both (fine first) (fine second)) _ out why e

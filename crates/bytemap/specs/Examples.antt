@@ -4,7 +4,7 @@ use mathlib.Core.Path.{_≡_, refl}
 use mathlib.Core.List.{List, [], _∷_, _++_}
 use lib.ListN.{replicate, take, drop}
 use Rattle.seq.specs.Tabulate.{tabulate}
-use Rattle.isa.specs.Kinds.{registerBytes, fileSize, maskCount, mapEntries, zeroEntry}
+use Rattle.isa.specs.Kinds.{registerBytes, maskCount, mapEntries, zeroEntry}
 use Rattle.isa.specs.Features.{hasFeature}
 use Rattle.isa.specs.Operands.{widthOf, elementOf, digitsOf, moveFrom, controlOf}
 use Rattle.isa.specs.Table.{rows, findIn, matchesRow, matchesW}
