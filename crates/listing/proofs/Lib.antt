@@ -4,4 +4,5 @@ mod Names
 mod Numbers
 mod Lines
 pub mod Bounds
+pub mod Laws
 mod Whole
