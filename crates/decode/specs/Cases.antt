@@ -154,9 +154,10 @@ starredCases =
     ∷ case (0x62 ∷ 0xF2 ∷ 0x6D ∷ 0x58 ∷ 0x8D ∷ 0x08 ∷ []) 31 4 (wrong Broadcast)
     ∷ []
 
--- cases 13 to 16, VPERM2F128 by 21, and a destination that is its own source; then, in the order of rule 5.3: features over the limit; fixed bits
--- before an unknown opcode; EVEX with another W, and with its own; short bytes before a wrong width and before a missing feature; W, V' and vvvv; a
--- wrong field before a missing feature; the feature of a row, and the one that is not asked for besides; AVX512VL
+-- cases 13 to 16, VPERM2F128 by 21, and a destination that is its own source; R, B, X and V' in registers; the forms of displacement; an opcode
+-- in another map, and a broadcast quadword; then, in the order of rule 5.3: features over the limit; fixed bits before an unknown opcode; EVEX with
+-- another W, and with its own; short bytes before a wrong width and before a missing feature; W, V' and vvvv; a wrong field before a missing feature;
+-- the feature of a row, and the one that is not asked for besides; AVX512VL
 unfoldable pub furtherCases : List Case
 furtherCases =
     case (0xC4 ∷ 0xE2 ∷ 0x69 ∷ 0x0D ∷ 0xCB ∷ []) 31 0 (ofThree vpermilpdRegister Vex Bits128 1 2 3 Immediate.Absent 5)
@@ -166,6 +167,16 @@ furtherCases =
     ∷ moving (0xC4 ∷ 0xE3 ∷ 0x6D ∷ 0x06 ∷ 0xCB ∷ 0x21 ∷ []) 31 (ofThree vperm2f128 Vex Bits256 1 2 3 (Immediate.Byte 0x21) 6)
     (qword 2 2 ++ qword 2 3 ++ qword 3 0 ++ qword 3 1 ++ cleared 32)
     ∷ moving (0xC5 ∷ 0xF9 ∷ 0x70 ∷ 0xC9 ∷ 0x1B ∷ []) 31 (byImmediate vpshufd Vex Bits128 1 (register 1) 0 false false 0x1B 5) (turned 1 0 ++ cleared 48)
+    ∷ case (0xC5 ∷ 0x79 ∷ 0x70 ∷ 0xCA ∷ 0x1B ∷ []) 31 0 (byImmediate vpshufd Vex Bits128 9 (register 2) 0 false false 0x1B 5)
+    ∷ case (0xC4 ∷ 0x43 ∷ 0x7D ∷ 0x05 ∷ 0xCA ∷ 0x05 ∷ []) 31 0 (byImmediate vpermilpd Vex Bits256 9 (register 10) 0 false false 0x05 6)
+    ∷ case (0xC4 ∷ 0xA3 ∷ 0x7D ∷ 0x05 ∷ 0xCA ∷ 0x05 ∷ []) 31 0 (byImmediate vpermilpd Vex Bits256 1 (register 2) 0 false false 0x05 6)
+    ∷ case (0x62 ∷ 0xF2 ∷ 0x6D ∷ 0x40 ∷ 0x8D ∷ 0xCB ∷ []) 31 0 (ofThree vpermb Evex Bits512 1 18 3 Immediate.Absent 6)
+    ∷ case (0xC5 ∷ 0xF9 ∷ 0x70 ∷ 0x0D ∷ 1 ∷ 2 ∷ 3 ∷ 4 ∷ 0x1B ∷ []) 31 0 (byImmediate vpshufd Vex Bits128 1 (Third.Memory 16) 0 false false 0x1B 9)
+    ∷ case (0xC5 ∷ 0xFD ∷ 0x70 ∷ 0x0C ∷ 0x25 ∷ 1 ∷ 2 ∷ 3 ∷ 4 ∷ 0x1B ∷ []) 31 0 (byImmediate vpshufd Vex Bits256 1 (Third.Memory 32) 0 false false 0x1B 10)
+    ∷ case (0xC5 ∷ 0xF9 ∷ 0x70 ∷ 0x0C ∷ 0x24 ∷ 0x1B ∷ []) 31 0 (byImmediate vpshufd Vex Bits128 1 (Third.Memory 16) 0 false false 0x1B 6)
+    ∷ case (0xC5 ∷ 0xF9 ∷ 0x70 ∷ 0x88 ∷ 1 ∷ 2 ∷ 3 ∷ 4 ∷ 0x1B ∷ []) 31 0 (byImmediate vpshufd Vex Bits128 1 (Third.Memory 16) 0 false false 0x1B 9)
+    ∷ case (0x62 ∷ 0xF1 ∷ 0xFD ∷ 0x18 ∷ 0x05 ∷ []) 31 3 (Refused Unlisted)
+    ∷ case (0x62 ∷ 0xF3 ∷ 0xFD ∷ 0x18 ∷ 0x05 ∷ 0x08 ∷ 0x01 ∷ []) 31 0 (byImmediate vpermilpd Evex Bits128 1 (Third.Memory 8) 0 false true 0x01 7)
     ∷ case [] 32 1 (Refused Argument)
     ∷ case (0x62 ∷ 0xFD ∷ 0x7D ∷ 0x48 ∷ 0xFF ∷ []) 31 4 (wrong FixedBits)
     ∷ case (0x62 ∷ 0xF2 ∷ 0xED ∷ 0x48 ∷ 0x8D ∷ 0xCB ∷ []) 31 3 (Refused Unlisted)
