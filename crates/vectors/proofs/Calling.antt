@@ -9,7 +9,7 @@ use Rattle.vectors.specs.Calls.{called}
 use Rattle.vectors.specs.declared.digest.Digest.{Digest}
 use Rattle.vectors.specs.declared.calls.Line.{Line}
 
--- the code lends elements 8 to 8 + n of a larger buffer, and digests that with what the callee left there
+-- the code hands over elements 8 to 8 + n of a larger buffer, and digests that with what the callee left there
 pub calls : {X : Type 0} (line : X → Digest → Line) (result : List ℕ → X) (after : List ℕ → List ℕ) (n : ℕ) (room : List ℕ) {last : List ℕ} {x : X} {d : Digest}
     → x ≡ result (take (8 + n - 8) (drop 8 room)) → last ≡ after (take (8 + n - 8) (drop 8 room))
     → d ≡ digestOf (take 8 room ++ (last ++ drop (8 + n - 8) (drop 8 room)))
