@@ -70,12 +70,3 @@ module _ (text : List ℕ) (at : ℕ) (w : List ℕ) where
   ends fits buffer i c h =
       let e : i ≡ length w = omega (arith, c .within) in
       c .is ∙ rw (e, take-length w) (sym (sets-eq w text at fits))
-
--- ---- the same bytes by another name: what is known of a fits and of b, where a text `of` a value is put in
-
-module _ {A : Type 0} (of : A → List ℕ) (a b : A) (e : a ≡ b) (at : ℕ) where
-  pub known-fits : (n : ℕ) → at + length (of a) ≤ n → at + length (of b) ≤ n
-  known-fits n h = rw e at h
-
-  pub known-put : (text : List ℕ) (n : ℕ) (after : List ℕ) → Put text at (of b) n after → Put text at (of a) n after
-  known-put text n after p = rw e p
