@@ -157,7 +157,7 @@ starredCases =
 -- cases 13 to 16, VPERM2F128 by 21, and a destination that is its own source; R, B, X and V' in registers; the forms of displacement; an opcode
 -- in another map, and a broadcast quadword; then, in the order of rule 5.3: features over the limit; fixed bits before an unknown opcode; EVEX with
 -- another W, and with its own; short bytes before a wrong width and before a missing feature; W, V' and vvvv; a wrong field before a missing feature;
--- the feature of a row, and the one that is not asked for besides; AVX512VL
+-- the feature of a row, and the one that is not asked for besides; AVX512VL; each feature's bit by itself
 unfoldable pub furtherCases : List Case
 furtherCases =
     case (0xC4 ∷ 0xE2 ∷ 0x69 ∷ 0x0D ∷ 0xCB ∷ []) 31 0 (ofThree vpermilpdRegister Vex Bits128 1 2 3 Immediate.Absent 5)
@@ -192,6 +192,9 @@ furtherCases =
     ∷ case (0x62 ∷ 0xF2 ∷ 0x6D ∷ 0x48 ∷ 0x8D ∷ 0xCB ∷ []) 4 5 (Refused Feature)
     ∷ case (0x62 ∷ 0xF2 ∷ 0x6D ∷ 0x48 ∷ 0x8D ∷ 0xCB ∷ []) 16 0 (ofThree vpermb Evex Bits512 1 2 3 Immediate.Absent 6)
     ∷ case (0x62 ∷ 0xF2 ∷ 0x6D ∷ 0x28 ∷ 0x8D ∷ 0xCB ∷ []) 16 5 (Refused Feature)
+    ∷ case (0x62 ∷ 0xF2 ∷ 0x6D ∷ 0x28 ∷ 0x8D ∷ 0xCB ∷ []) 24 0 (ofThree vpermb Evex Bits256 1 2 3 Immediate.Absent 6)
+    ∷ case (0xC5 ∷ 0xF9 ∷ 0x70 ∷ 0xCA ∷ 0x1B ∷ []) 1 0 (byImmediate vpshufd Vex Bits128 1 (register 2) 0 false false 0x1B 5)
+    ∷ case (0x62 ∷ 0xF1 ∷ 0x7D ∷ 0x48 ∷ 0x70 ∷ 0xCA ∷ 0x1B ∷ []) 4 0 (byImmediate vpshufd Evex Bits512 1 (register 2) 0 false false 0x1B 7)
     ∷ []
 
 -- every case decodes as it says, and its answer has its number
