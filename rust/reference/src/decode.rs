@@ -1,5 +1,5 @@
-//! Decoding one instruction: document 01's prefix layouts, its instruction table, and the order of
-//! its refusals.
+//! Decoding one instruction: document 01's prefix layouts, its instruction table with the rows of
+//! request 1, and the order of its refusals.
 
 use crate::limits::{check_features, feature};
 use crate::prefix::{Encoding, Prefix};
@@ -177,7 +177,7 @@ fn wrong_field(prefix: &Prefix, row: &Row, modrm: ModRm) -> Option<Field> {
     first.map(|(field, _)| field)
 }
 
-/// Needed features (document 01, "The instruction table").
+/// Needed features (document 01, "The instruction table", and request 1).
 fn needed_features(prefix: &Prefix, row: &Row) -> u32 {
     let below_512 = if prefix.width < 2 {
         feature::AVX512VL
@@ -185,9 +185,12 @@ fn needed_features(prefix: &Prefix, row: &Row) -> u32 {
         0
     };
     match (prefix.encoding, row.mnemonic) {
-        (Encoding::Vex, Mnemonic::Vpshufd) if prefix.width == 1 => feature::AVX2,
+        (Encoding::Vex, Mnemonic::Vpshufd | Mnemonic::Vpshufb) if prefix.width == 1 => {
+            feature::AVX2
+        }
         (Encoding::Vex, _) => feature::AVX,
         (Encoding::Evex, Mnemonic::Vpermb) => feature::AVX512_VBMI | below_512,
+        (Encoding::Evex, Mnemonic::Vpshufb) => feature::AVX512BW | below_512,
         (Encoding::Evex, _) => feature::AVX512F | below_512,
     }
 }

@@ -26,8 +26,9 @@ pub mod feature {
     pub const AVX512F: u32 = 1 << 2;
     pub const AVX512VL: u32 = 1 << 3;
     pub const AVX512_VBMI: u32 = 1 << 4;
+    pub const AVX512BW: u32 = 1 << 5;
     /// All of them, the greatest feature number there is.
-    pub const ALL: u32 = 31;
+    pub const ALL: u32 = 63;
 }
 
 /// Answer 1 for the features.

@@ -1,4 +1,4 @@
-//! One step on the register file (document 01, "What a step moves").
+//! One step on the register file (document 01, "What a step moves", and request 1).
 
 use crate::decode::{parse, Instruction, Third};
 use crate::limits::{check_state, LANE_SIZE, REGISTER_SIZE};
@@ -92,8 +92,14 @@ fn permute(instruction: &Instruction, first: &[u8], third: &[u8], result: &mut [
             vpermilpd_immediate(third, immediate, result);
         }
         Mnemonic::Vpermilpd => vpermilpd_register(first, third, result),
+        Mnemonic::Vpermilps if instruction.row.has_immediate => vpshufd(third, immediate, result),
+        Mnemonic::Vpermilps => vpermilps_register(first, third, result),
         Mnemonic::Vpermb => vpermb(first, third, result),
-        Mnemonic::Vunpcklps => vunpcklps(first, third, result),
+        Mnemonic::Vpshufb => vpshufb(first, third, result),
+        Mnemonic::Vunpcklps => unpack::<4, LOW>(first, third, result),
+        Mnemonic::Vunpckhps => unpack::<4, HIGH>(first, third, result),
+        Mnemonic::Vunpcklpd => unpack::<8, LOW>(first, third, result),
+        Mnemonic::Vunpckhpd => unpack::<8, HIGH>(first, third, result),
         Mnemonic::Vpshufd => vpshufd(third, immediate, result),
         Mnemonic::Vperm2f128 => vperm2f128(first, third, immediate, result),
     }
@@ -102,7 +108,7 @@ fn permute(instruction: &Instruction, first: &[u8], third: &[u8], result: &mut [
 fn vpermilpd_immediate(source: &[u8], immediate: u8, result: &mut [u8]) {
     for (j, quadword) in result.chunks_exact_mut(8).enumerate() {
         let pick = (immediate >> j) & 1;
-        quadword.copy_from_slice(lane_quadword(source, j, pick));
+        quadword.copy_from_slice(lane_element::<8>(source, j, pick));
     }
 }
 
@@ -110,14 +116,23 @@ fn vpermilpd_immediate(source: &[u8], immediate: u8, result: &mut [u8]) {
 fn vpermilpd_register(source: &[u8], control: &[u8], result: &mut [u8]) {
     for (j, quadword) in result.chunks_exact_mut(8).enumerate() {
         let pick = (control[8 * j] >> 1) & 1;
-        quadword.copy_from_slice(lane_quadword(source, j, pick));
+        quadword.copy_from_slice(lane_element::<8>(source, j, pick));
     }
 }
 
-/// The low (0) or high (1) quadword of the lane that quadword `j` is in.
-fn lane_quadword(source: &[u8], j: usize, pick: u8) -> &[u8] {
-    let start = j / 2 * LANE_SIZE + 8 * usize::from(pick);
-    &source[start..start + 8]
+/// Bits 1:0 of each control doubleword pick.
+fn vpermilps_register(source: &[u8], control: &[u8], result: &mut [u8]) {
+    for (j, doubleword) in result.chunks_exact_mut(4).enumerate() {
+        let pick = control[4 * j] & 3;
+        doubleword.copy_from_slice(lane_element::<4>(source, j, pick));
+    }
+}
+
+/// Element `pick` of the lane that element `j` is in.
+fn lane_element<const SIZE: usize>(source: &[u8], j: usize, pick: u8) -> &[u8] {
+    let lane = j / (LANE_SIZE / SIZE);
+    let start = lane * LANE_SIZE + SIZE * usize::from(pick);
+    &source[start..start + SIZE]
 }
 
 fn vpermb(indices: &[u8], source: &[u8], result: &mut [u8]) {
@@ -126,18 +141,39 @@ fn vpermb(indices: &[u8], source: &[u8], result: &mut [u8]) {
     }
 }
 
-fn vunpcklps(first: &[u8], third: &[u8], result: &mut [u8]) {
+/// A control byte with bit 7 set clears; the others pick by bits 3:0, within the lane.
+fn vpshufb(source: &[u8], control: &[u8], result: &mut [u8]) {
+    for (j, (byte, &control)) in result.iter_mut().zip(control).enumerate() {
+        let lane = j / LANE_SIZE;
+        let pick = usize::from(control & 0x0F);
+        *byte = match control & 0x80 {
+            0 => source[lane * LANE_SIZE + pick],
+            _ => 0,
+        };
+    }
+}
+
+/// Where the halves of a lane start.
+const LOW: usize = 0;
+const HIGH: usize = LANE_SIZE / 2;
+
+/// The low or the high half of each lane, its elements from the two sources in turn.
+fn unpack<const SIZE: usize, const HALF: usize>(first: &[u8], third: &[u8], result: &mut [u8]) {
     let sources = first
         .chunks_exact(LANE_SIZE)
         .zip(third.chunks_exact(LANE_SIZE));
     for (lane, (first, third)) in result.chunks_exact_mut(LANE_SIZE).zip(sources) {
-        lane[0..4].copy_from_slice(&first[0..4]);
-        lane[4..8].copy_from_slice(&third[0..4]);
-        lane[8..12].copy_from_slice(&first[4..8]);
-        lane[12..16].copy_from_slice(&third[4..8]);
+        let pairs = first[HALF..]
+            .chunks_exact(SIZE)
+            .zip(third[HALF..].chunks_exact(SIZE));
+        for (pair, (first, third)) in lane.chunks_exact_mut(2 * SIZE).zip(pairs) {
+            pair[..SIZE].copy_from_slice(first);
+            pair[SIZE..].copy_from_slice(third);
+        }
     }
 }
 
+/// Also VPERMILPS with an immediate.
 fn vpshufd(source: &[u8], immediate: u8, result: &mut [u8]) {
     let picks = [0, 2, 4, 6].map(|shift| usize::from((immediate >> shift) & 3));
     let lanes = result

@@ -29,7 +29,7 @@ fn code(random: &mut Random) -> Vec<u8> {
 fn features(random: &mut Random) -> u32 {
     match random.below(8) {
         0 => random.word() as u32,
-        1 => random.below(33) as u32,
+        1 => random.below(65) as u32,
         _ => ALL,
     }
 }

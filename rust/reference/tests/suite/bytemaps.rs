@@ -74,6 +74,30 @@ fn the_map_of_one_step() {
 }
 
 #[test]
+fn the_maps_of_the_other_unpacking_steps() {
+    // pp and opcode, bytes of an element, where the half of a lane starts.
+    let cases = [(0xE8, 0x15, 4, 8), (0xE9, 0x14, 8, 0), (0xE9, 0x15, 8, 8)];
+    for (p, opcode, size, half) in cases {
+        let mut expected = identity();
+        expected[64..128].fill(ZERO);
+        for byte in 0..16 {
+            let source = [128, 192][byte / size % 2];
+            let from = half + byte / (2 * size) * size + byte % size;
+            expected[64 + byte] = (source + from) as u16;
+        }
+        assert_eq!(map_of(&[0xC5, p, opcode, 0xCB], &OPEN), expected);
+    }
+}
+
+#[test]
+fn vpermilps_with_an_immediate_has_the_map_of_vpshufd() {
+    for immediate in 0..=255 {
+        let vpermilps = map_of(&[0xC4, 0xE3, 0x7D, 0x04, 0xCA, immediate], &OPEN);
+        assert!(vpermilps == map_of(&[0xC5, 0xFD, 0x70, 0xCA, immediate], &OPEN));
+    }
+}
+
+#[test]
 fn the_map_of_a_merging_step() {
     // VPSHUFD xmm31{k2}, xmm30, 0 with the second doubleword masked off.
     let code = [0x62, 0x01, 0x7D, 0x0A, 0x70, 0xFE, 0x00];
@@ -147,13 +171,21 @@ fn composing_keeps_zero_entries_of_the_second_map() {
 
 #[test]
 fn steps_that_a_map_cannot_describe() {
-    let cases: [&[u8]; 6] = [
+    let cases: [&[u8]; 13] = [
         &[0xC5, 0xF9, 0x70, 0x08, 0x1B],
         &[0x62, 0xF1, 0x7D, 0x58, 0x70, 0x08, 0x00],
         &[0xC4, 0xE2, 0x69, 0x0D, 0xCB],
         &[0x62, 0xF2, 0xED, 0x4A, 0x0D, 0xCB],
         &[0x62, 0xF2, 0x6D, 0x4A, 0x8D, 0xCB],
         &[0x62, 0xF2, 0x6D, 0x4A, 0x8D, 0x0B],
+        // VPSHUFB, VPERMILPS with its control in a register, and unpacking from memory.
+        &[0xC4, 0xE2, 0x69, 0x00, 0xCB],
+        &[0x62, 0xF2, 0x6D, 0x4A, 0x00, 0xCB],
+        &[0x62, 0xF2, 0xED, 0x4A, 0x00, 0x0B],
+        &[0xC4, 0xE2, 0x69, 0x0C, 0xCB],
+        &[0x62, 0xF2, 0x6D, 0x4A, 0x0C, 0xCB],
+        &[0xC4, 0xE3, 0x79, 0x04, 0x08, 0x1B],
+        &[0xC5, 0xE8, 0x15, 0x08],
     ];
     for bad in cases {
         refused(bad, &[0; 8], ALL, built(0, 7));
@@ -168,7 +200,7 @@ fn building_refuses_in_order() {
     for code in [&[][..], &VUNPCKLPS, &long, &[0x90]] {
         refused(code, &[0; 7], ALL, built(0, 1));
         refused(code, &[0; 9], ALL, built(0, 1));
-        refused(code, &OPEN, 32, built(0, 1));
+        refused(code, &OPEN, 64, built(0, 1));
         for size in [0, 2_047, 2_049] {
             let mut map = vec![3; size];
             assert_eq!(build(code, &OPEN, ALL, &mut map), built(0, 1));
@@ -183,6 +215,11 @@ fn building_refuses_in_order() {
     refused(&[0x62, 0xF2, 0x6D, 0x58, 0x8D, 0x08], &OPEN, 0, built(0, 4));
     refused(&vpermb, &OPEN, 15, built(0, 5));
     refused(&vpermb, &OPEN, 16, built(0, 7));
+    let vpshufb = [0x62, 0xF2, 0x6D, 0x48, 0x00, 0xCB];
+    refused(&vpshufb[..5], &OPEN, ALL, built(0, 2));
+    refused(&[0x62, 0xF2, 0x6D, 0x58, 0x00, 0xCB], &OPEN, 0, built(0, 4));
+    refused(&vpshufb, &OPEN, 31, built(0, 5));
+    refused(&vpshufb, &OPEN, 32, built(0, 7));
     let code = [&VUNPCKLPS[..], &VUNPCKLPS[..3]].concat();
     refused(&code, &OPEN, ALL, built(4, 2));
     let code = [&VUNPCKLPS[..], &[0x90]].concat();

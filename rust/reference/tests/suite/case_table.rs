@@ -1,19 +1,30 @@
-//! Every row of document 01's table of cases.
+//! Every row of document 01's table of cases, under its features and under all.
 
-use crate::support::{check_step, check_step_on, padded, picked, register, varied_file, ALL, OPEN};
+use crate::support::{
+    check_step, padded, picked, refusal, register, varied_file, Call, EITHER, OPEN,
+};
 use reference::{decode, reserved_field, step, Decoded, Field, Stepped};
 
 fn refused(code: &[u8], status: u32, field: Option<Field>) {
-    let expected = Decoded {
-        status,
-        ..Decoded::default()
-    };
-    assert_eq!(decode(code, ALL), expected);
-    assert_eq!(reserved_field(code, ALL), field);
-    let mut file = varied_file();
-    let stepped = step(code, &mut file, &OPEN, ALL, &[]);
-    assert_eq!(stepped, Stepped { status, length: 0 });
-    assert_eq!(file, varied_file());
+    for features in EITHER {
+        assert_eq!(decode(code, features), refusal(status));
+        assert_eq!(reserved_field(code, features), field);
+        let mut file = varied_file();
+        let stepped = step(code, &mut file, &OPEN, features, &[]);
+        assert_eq!(stepped, Stepped { status, length: 0 });
+        assert_eq!(file, varied_file());
+    }
+}
+
+fn decodes(code: &[u8], expected: Decoded) {
+    for features in EITHER {
+        assert_eq!(decode(code, features), expected);
+    }
+}
+
+/// A step on the varied file.
+fn moves(call: Call, number: usize, expected: &[u8]) {
+    check_step(call, &EITHER, &varied_file(), number, expected);
 }
 
 #[test]
@@ -29,10 +40,10 @@ fn vpshufd_reverses_doublewords() {
         immediate: 0x1B,
         ..Decoded::default()
     };
-    assert_eq!(decode(&code, ALL), expected);
+    decodes(&code, expected);
     let source = varied_file();
     let moved = picked(register(&source, 2), 4, &[3, 2, 1, 0]);
-    check_step(&code, &OPEN, &[], 1, &moved);
+    moves(Call::new(&code), 1, &moved);
 }
 
 #[test]
@@ -61,7 +72,7 @@ fn vpshufd_with_zeroing_mask() {
         immediate: 0x1B,
         ..Decoded::default()
     };
-    assert_eq!(decode(&code, ALL), expected);
+    decodes(&code, expected);
     let mut masks = OPEN;
     masks[1] = 0xFFFF_FFFF_FFFF_5AF1;
     let source = varied_file();
@@ -70,7 +81,11 @@ fn vpshufd_with_zeroing_mask() {
     for cleared in [1, 2, 3, 8, 10, 13, 15] {
         moved[4 * cleared..4 * cleared + 4].fill(0);
     }
-    check_step(&code, &masks, &[], 1, &moved);
+    let call = Call {
+        masks: &masks,
+        ..Call::new(&code)
+    };
+    moves(call, 1, &moved);
 }
 
 #[test]
@@ -99,9 +114,13 @@ fn vpshufd_with_broadcast_memory() {
         has_immediate: 1,
         ..Decoded::default()
     };
-    assert_eq!(decode(&code, ALL), expected);
+    decodes(&code, expected);
     let memory = [0xA1, 0xB2, 0xC3, 0xD4];
-    check_step(&code, &OPEN, &memory, 1, &memory.repeat(16));
+    let call = Call {
+        memory: &memory,
+        ..Call::new(&code)
+    };
+    moves(call, 1, &memory.repeat(16));
 }
 
 #[test]
@@ -124,11 +143,11 @@ fn vpshufd_with_high_registers() {
         immediate: 0x1B,
         ..Decoded::default()
     };
-    assert_eq!(decode(&code, ALL), expected);
+    decodes(&code, expected);
     let source = varied_file();
     let order = [3, 2, 1, 0, 7, 6, 5, 4, 11, 10, 9, 8, 15, 14, 13, 12];
     let moved = picked(register(&source, 26), 4, &order);
-    check_step(&code, &OPEN, &[], 17, &moved);
+    moves(Call::new(&code), 17, &moved);
 }
 
 #[test]
@@ -144,10 +163,10 @@ fn vpermilpd_with_immediate() {
         immediate: 5,
         ..Decoded::default()
     };
-    assert_eq!(decode(&code, ALL), expected);
+    decodes(&code, expected);
     let source = varied_file();
     let moved = picked(register(&source, 2), 8, &[1, 0, 3, 2]);
-    check_step(&code, &OPEN, &[], 1, &moved);
+    moves(Call::new(&code), 1, &moved);
 }
 
 #[test]
@@ -174,13 +193,13 @@ fn vpermilpd_with_register_control() {
         third: 3,
         ..Decoded::default()
     };
-    assert_eq!(decode(&code, ALL), expected);
+    decodes(&code, expected);
     for (controls, order) in [([2, 1], [1, 0]), ([1, 2], [0, 1]), ([3, 0xFD], [1, 0])] {
         let mut source = varied_file();
         source[3 * 64] = controls[0];
         source[3 * 64 + 8] = controls[1];
         let moved = picked(register(&source, 2), 8, &order);
-        check_step_on(&source, &code, &OPEN, &[], 1, &moved);
+        check_step(Call::new(&code), &EITHER, &source, 1, &moved);
     }
 }
 
@@ -196,11 +215,11 @@ fn vunpcklps_interleaves() {
         third: 3,
         ..Decoded::default()
     };
-    assert_eq!(decode(&code, ALL), expected);
+    decodes(&code, expected);
     let source = varied_file();
     let (first, third) = (register(&source, 2), register(&source, 3));
     let moved = [&first[0..4], &third[0..4], &first[4..8], &third[4..8]].concat();
-    check_step(&code, &OPEN, &[], 1, &padded(moved));
+    moves(Call::new(&code), 1, &padded(moved));
 }
 
 #[test]
@@ -215,10 +234,14 @@ fn vpshufd_with_sib_and_displacement() {
         immediate: 0x1B,
         ..Decoded::default()
     };
-    assert_eq!(decode(&code, ALL), expected);
+    decodes(&code, expected);
     let memory: Vec<u8> = (101..117).collect();
     let moved = picked(&memory, 4, &[3, 2, 1, 0]);
-    check_step(&code, &OPEN, &memory, 0, &moved);
+    let call = Call {
+        memory: &memory,
+        ..Call::new(&code)
+    };
+    moves(call, 0, &moved);
 }
 
 #[test]
@@ -235,6 +258,6 @@ fn vperm2f128_with_both_halves_cleared() {
         immediate: 0x88,
         ..Decoded::default()
     };
-    assert_eq!(decode(&code, ALL), expected);
-    check_step(&code, &OPEN, &[], 1, &[0; 64]);
+    decodes(&code, expected);
+    moves(Call::new(&code), 1, &[0; 64]);
 }

@@ -42,8 +42,8 @@ fn all_needed_features_and_no_others_are_needed() {
 /// The answer that the table gives for a VEX key; 3 is no row.
 fn vex_answer(map: u8, pp: u8, opcode: u8, w: u8, l: u8) -> u32 {
     match (map, pp, opcode) {
-        (3, 1, 0x05) | (2, 1, 0x0D) => 4 * u32::from(w),
-        (1, 0, 0x14) | (1, 1, 0x70) => 0,
+        (3, 1, 0x04 | 0x05) | (2, 1, 0x0C | 0x0D) => 4 * u32::from(w),
+        (1, 0 | 1, 0x14 | 0x15) | (1, 1, 0x70) | (2, 1, 0x00) => 0,
         (3, 1, 0x06) => 4 * u32::from(w == 1 || l == 0),
         _ => 3,
     }
@@ -95,9 +95,11 @@ fn every_evex_key() {
             0xC0,
             0,
         ];
+        let reserved_width = 4 * u32::from(width == 3);
         let expected = match (map, pp, opcode, w) {
-            (3, 1, 0x05, 1) | (2, 1, 0x0D, 1) => 4 * u32::from(width == 3),
-            (2, 1, 0x8D, 0) | (1, 0, 0x14, 0) | (1, 1, 0x70, 0) => 4 * u32::from(width == 3),
+            (3, 1, 0x05, 1) | (2, 1, 0x0D, 1) | (1, 1, 0x14 | 0x15, 1) => reserved_width,
+            (3, 1, 0x04, 0) | (2, 1, 0x0C, 0) | (1, 0, 0x14 | 0x15, 0) => reserved_width,
+            (2, 1, 0x8D, 0) | (1, 1, 0x70, 0) | (2, 1, 0x00, _) => reserved_width,
             _ => 3,
         };
         assert_eq!(status(&code), expected, "{code:02X?}");
@@ -179,8 +181,12 @@ fn w_is_ignored_where_any_will_do() {
     for q in [0x79, 0xF9] {
         assert_eq!(status(&[0xC4, 0xE1, q, 0x70, 0xCA, 0x1B]), 0);
     }
-    for q in [0x68, 0xE8] {
+    for q in [0x68, 0xE8, 0x69, 0xE9] {
         assert_eq!(status(&[0xC4, 0xE1, q, 0x14, 0xCB]), 0);
+        assert_eq!(status(&[0xC4, 0xE1, q, 0x15, 0xCB]), 0);
+    }
+    for q in [0x69, 0xE9] {
+        assert_eq!(status(&[0xC4, 0xE2, q, 0x00, 0xCB]), 0);
     }
 }
 

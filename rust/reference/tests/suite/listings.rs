@@ -44,9 +44,17 @@ fn every_name_and_memory_forms() {
         &VUNPCKLPS,
         &[0x62, 0xF1, 0x7D, 0x58, 0x70, 0x8C, 0x24, 1, 2, 3, 4, 9],
         &[0xC4, 0xE3, 0x6D, 0x06, 0xCB, 0x88],
+        &[0xC4, 0xE3, 0x79, 0x04, 0xCA, 0x1B],
+        &[0x62, 0xF2, 0x6D, 0x58, 0x0C, 0x08],
+        &[0xC5, 0xE8, 0x15, 0xCB],
+        &[0xC4, 0xE1, 0xED, 0x14, 0xCB],
+        &[0x62, 0xF1, 0xED, 0x48, 0x15, 0xCB],
+        &[0x62, 0xF2, 0xED, 0x48, 0x00, 0xCB],
     ];
     let expected = "0\t6\tVPERMILPD\t256\t0\n6\t6\tVPERMILPD\t512\t0\n12\t11\tVPERMB\t512\t0\n\
-        23\t4\tVUNPCKLPS\t128\t0\n27\t12\tVPSHUFD\t512\t0\n39\t6\tVPERM2F128\t256\t0\n";
+        23\t4\tVUNPCKLPS\t128\t0\n27\t12\tVPSHUFD\t512\t0\n39\t6\tVPERM2F128\t256\t0\n\
+        45\t6\tVPERMILPS\t128\t0\n51\t6\tVPERMILPS\t512\t0\n57\t4\tVUNPCKHPS\t128\t0\n\
+        61\t5\tVUNPCKLPD\t256\t0\n66\t6\tVUNPCKHPD\t512\t0\n72\t6\tVPSHUFB\t512\t0\n";
     assert_eq!(list(&code.concat(), 25_624), [HEADER, expected].concat());
 }
 

@@ -1,9 +1,10 @@
-//! Tests of the reference against document 01 and the manual pages.
+//! Tests of the reference against document 01, request 1 and the manual pages.
 
 mod any_input;
 mod bytemaps;
 mod case_table;
 mod encodings;
+mod lane_permutes;
 mod listings;
 mod manual;
 mod refusals;

@@ -59,6 +59,71 @@ const VPSHUFD: [[usize; 3]; 16] = [
     [480, 384, 6],
 ];
 
+/// VPERMILPS, variable versions: destination, lowest bit of the source's lane, lowest of the two
+/// control bits.
+const VPERMILPS_CONTROL: [[usize; 3]; 16] = [
+    [0, 0, 0],
+    [32, 0, 32],
+    [64, 0, 64],
+    [96, 0, 96],
+    [128, 128, 128],
+    [160, 128, 160],
+    [192, 128, 192],
+    [224, 128, 224],
+    [256, 256, 256],
+    [288, 256, 288],
+    [320, 256, 320],
+    [352, 256, 352],
+    [384, 384, 384],
+    [416, 384, 416],
+    [448, 384, 448],
+    [480, 384, 480],
+];
+
+/// VUNPCKHPS: destination, source 1 or 2, bit of the source.
+const VUNPCKHPS: [[usize; 3]; 16] = [
+    [0, 1, 64],
+    [32, 2, 64],
+    [64, 1, 96],
+    [96, 2, 96],
+    [128, 1, 192],
+    [160, 2, 192],
+    [192, 1, 224],
+    [224, 2, 224],
+    [256, 1, 320],
+    [288, 2, 320],
+    [320, 1, 352],
+    [352, 2, 352],
+    [384, 1, 448],
+    [416, 2, 448],
+    [448, 1, 480],
+    [480, 2, 480],
+];
+
+/// VUNPCKLPD: destination, source 1 or 2, bit of the source.
+const VUNPCKLPD: [[usize; 3]; 8] = [
+    [0, 1, 0],
+    [64, 2, 0],
+    [128, 1, 128],
+    [192, 2, 128],
+    [256, 1, 256],
+    [320, 2, 256],
+    [384, 1, 384],
+    [448, 2, 384],
+];
+
+/// VUNPCKHPD: destination, source 1 or 2, bit of the source.
+const VUNPCKHPD: [[usize; 3]; 8] = [
+    [0, 1, 64],
+    [64, 2, 64],
+    [128, 1, 192],
+    [192, 2, 192],
+    [256, 1, 320],
+    [320, 2, 320],
+    [384, 1, 448],
+    [448, 2, 448],
+];
+
 /// A 512-bit register, addressed by bit.
 #[derive(Clone, Copy)]
 struct Register([u8; 64]);
@@ -92,36 +157,65 @@ fn third(sample: &Sample, file: &[u8], memory: &[u8]) -> Register {
 /// TMP_DEST at full width; the bits above VL are dropped by `write`.
 fn operate(sample: &Sample, first: &Register, third: &Register) -> Register {
     let immediate = usize::from(sample.immediate);
-    let mut result = Register([0; 64]);
     match sample.kind {
-        Kind::VpermilpdImmediate => {
-            for [bit, to, low, high] in VPERMILPD {
-                let from = if (immediate >> bit) & 1 == 0 {
-                    low
-                } else {
-                    high
-                };
-                result.copy(to, third, from, 64);
-            }
-        }
-        Kind::VpermilpdRegister => {
-            for ([_, to, low, high], control) in VPERMILPD.into_iter().zip(VPERMILPD_CONTROL) {
-                let from = if third.bit(control) == 0 { low } else { high };
-                result.copy(to, first, from, 64);
-            }
-        }
-        Kind::Vpermb => return vpermb(sample, first, third),
-        Kind::Vunpcklps => {
-            for [to, source, from] in VUNPCKLPS {
-                result.copy(to, if source == 1 { first } else { third }, from, 32);
-            }
-        }
-        Kind::Vpshufd => {
-            for [to, lane, order] in VPSHUFD {
-                result.copy(to, third, lane + 32 * ((immediate >> order) & 3), 32);
-            }
-        }
-        Kind::Vperm2f128 => return vperm2f128(immediate, first, third),
+        Kind::VpermilpdImmediate => vpermilpd(third, |j| (immediate >> j) & 1),
+        Kind::VpermilpdRegister => vpermilpd(first, |j| third.bit(VPERMILPD_CONTROL[j])),
+        Kind::VpermilpsRegister => vpermilps(first, third),
+        // The imm8 forms of VPERMILPS select as VPSHUFD orders.
+        Kind::VpermilpsImmediate | Kind::Vpshufd => vpshufd(immediate, third),
+        Kind::Vpermb => vpermb(sample, first, third),
+        Kind::Vpshufb => vpshufb(first, third),
+        Kind::Vunpcklps => interleave(&VUNPCKLPS, first, third),
+        Kind::Vunpckhps => interleave(&VUNPCKHPS, first, third),
+        Kind::Vunpcklpd => interleave(&VUNPCKLPD, first, third),
+        Kind::Vunpckhpd => interleave(&VUNPCKHPD, first, third),
+        Kind::Vperm2f128 => vperm2f128(immediate, first, third),
+    }
+}
+
+/// Quadword j by its control bit.
+fn vpermilpd(source: &Register, control: impl Fn(usize) -> usize) -> Register {
+    let mut result = Register([0; 64]);
+    for [j, to, low, high] in VPERMILPD {
+        let from = if control(j) == 0 { low } else { high };
+        result.copy(to, source, from, 64);
+    }
+    result
+}
+
+fn vpermilps(source: &Register, control: &Register) -> Register {
+    let mut result = Register([0; 64]);
+    for [to, lane, bit] in VPERMILPS_CONTROL {
+        let pick = control.bit(bit) + 2 * control.bit(bit + 1);
+        result.copy(to, source, lane + 32 * pick, 32);
+    }
+    result
+}
+
+fn vpshufd(immediate: usize, source: &Register) -> Register {
+    let mut result = Register([0; 64]);
+    for [to, lane, order] in VPSHUFD {
+        result.copy(to, source, lane + 32 * ((immediate >> order) & 3), 32);
+    }
+    result
+}
+
+/// A table of the unpacking instructions, which fills the register.
+fn interleave(table: &[[usize; 3]], first: &Register, third: &Register) -> Register {
+    let mut result = Register([0; 64]);
+    for &[to, source, from] in table {
+        let source = if source == 1 { first } else { third };
+        result.copy(to, source, from, 512 / table.len());
+    }
+    result
+}
+
+/// VPSHUFB: bit 7 of byte j of SRC2 clears, else its bits 3:0 and the lane of j are the index.
+fn vpshufb(first: &Register, third: &Register) -> Register {
+    let mut result = Register([0; 64]);
+    for j in (0..64).filter(|j| third.bit(8 * j + 7) == 0) {
+        let index: usize = (0..4).map(|k| third.bit(8 * j + k) << k).sum();
+        result.copy(8 * j, first, 8 * (index + (j & 0x30)), 8);
     }
     result
 }

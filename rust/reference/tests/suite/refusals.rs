@@ -32,13 +32,16 @@ fn sizes_and_features_come_first() {
         for count in [0, 7, 9] {
             assert_eq!(step_sized(code, 2_048, &vec![0; count], ALL, &[]), 1);
         }
-        for features in [32, 33, 1 << 31, u32::MAX] {
+        for features in [64, 65, 1 << 31, u32::MAX] {
             assert_eq!(step_status(code, features, &[]), 1);
             assert_eq!(decode(code, features).status, 1);
             assert_eq!(reserved_field(code, features), None);
         }
     }
     assert_eq!(step_status(&VPSHUFD, ALL, &[]), 0);
+    // AVX512BW is a feature: with it alone, another one is missing.
+    assert_eq!(step_status(&VPSHUFD, 32, &[]), 5);
+    assert_eq!(step_status(&VPSHUFD, 33, &[]), 0);
 }
 
 #[test]
@@ -69,11 +72,15 @@ fn fixed_bits_wait_for_the_opcode_and_come_before_the_row() {
 #[test]
 fn no_row_comes_before_missing_bytes() {
     assert_eq!(step_status(&[0xC5, 0xF9, 0x71], 0, &[]), 3);
-    assert_eq!(step_status(&[0xC4, 0xE3, 0x7D, 0x04], 0, &[]), 3);
+    assert_eq!(step_status(&[0xC4, 0xE3, 0x7D, 0x07], 0, &[]), 3);
     assert_eq!(step_status(&[0x62, 0xF1, 0x7D, 0x48, 0x71], 0, &[]), 3);
     // EVEX with the other W, VPERMB under VEX, VPERM2F128 under EVEX.
     assert_eq!(step_status(&[0x62, 0xF1, 0xFD, 0x48, 0x70], 0, &[]), 3);
     assert_eq!(step_status(&[0x62, 0xF3, 0x7D, 0x48, 0x05], 0, &[]), 3);
+    assert_eq!(step_status(&[0x62, 0xF3, 0xFD, 0x48, 0x04], 0, &[]), 3);
+    assert_eq!(step_status(&[0x62, 0xF2, 0xED, 0x48, 0x0C], 0, &[]), 3);
+    assert_eq!(step_status(&[0x62, 0xF1, 0xEC, 0x48, 0x15], 0, &[]), 3);
+    assert_eq!(step_status(&[0x62, 0xF1, 0x6D, 0x48, 0x15], 0, &[]), 3);
     assert_eq!(step_status(&[0xC4, 0xE2, 0x6D, 0x8D], 0, &[]), 3);
     assert_eq!(step_status(&[0x62, 0xF3, 0x6D, 0x28, 0x06], 0, &[]), 3);
 }
@@ -94,7 +101,7 @@ fn missing_bytes_come_before_reserved_fields_and_features() {
 
 #[test]
 fn reserved_fields_in_their_order() {
-    let cases: [(&[u8], Field); 9] = [
+    let cases: [(&[u8], Field); 14] = [
         (
             &[0x62, 0xF9, 0x01, 0xF0, 0x70, 0xCA, 0x1B],
             Field::FixedBits,
@@ -110,6 +117,12 @@ fn reserved_fields_in_their_order() {
         ),
         (&[0x62, 0xF2, 0x6D, 0xD8, 0x8D, 0x08], Field::Broadcast),
         (&[0x62, 0xF1, 0x7D, 0xC8, 0x70, 0xCA, 0x1B], Field::Zeroing),
+        // VPERMILPS with W 1 and vvvv, with V', with vvvv; VPSHUFB with b and z.
+        (&[0xC4, 0xE3, 0xE9, 0x04, 0xCA, 0x1B], Field::W),
+        (&[0xC4, 0xE2, 0xE9, 0x0C, 0xCB], Field::W),
+        (&[0x62, 0xF3, 0x7D, 0x40, 0x04, 0xCA, 0x1B], Field::Vvvv),
+        (&[0xC4, 0xE3, 0x69, 0x04, 0xCA, 0x1B], Field::Vvvv),
+        (&[0x62, 0xF2, 0x6D, 0xD8, 0x00, 0x08], Field::Broadcast),
     ];
     for (code, field) in cases {
         for features in [0, ALL] {
@@ -137,17 +150,28 @@ fn features_come_before_memory() {
     let vpermb = [0x62, 0xF2, 0x6D, 0x48, 0x8D, 0xCB];
     assert_eq!(step_status(&vpermb, ALL - 16, &[]), 5);
     assert_eq!(step_status(&vpermb, 16, &[]), 0);
+    // 512-bit VPSHUFB needs AVX512BW and nothing else, the 256-bit VEX form AVX2 and not AVX.
+    let vpshufb = [0x62, 0xF2, 0x6D, 0x48, 0x00, 0xCB];
+    assert_eq!(step_status(&vpshufb, ALL - 32, &[]), 5);
+    assert_eq!(step_status(&vpshufb, 32, &[]), 0);
+    let wide = [0xC4, 0xE2, 0x6D, 0x00, 0xCB];
+    assert_eq!(step_status(&wide, ALL - 2, &[]), 5);
+    assert_eq!(step_status(&wide, 2, &[]), 0);
 }
 
 #[test]
 fn memory_one_less_and_one_more() {
-    let cases: [(&[u8], usize); 6] = [
+    let cases: [(&[u8], usize); 9] = [
         (&VPSHUFD, 0),
         (&BROADCAST, 4),
         (&[0x62, 0xF3, 0xFD, 0x58, 0x05, 0x08, 0x00], 8),
         (&[0xC5, 0xF9, 0x70, 0x08, 0x1B], 16),
         (&[0xC4, 0xE3, 0x6D, 0x06, 0x08, 0x31], 32),
         (&[0x62, 0xF2, 0x6D, 0x48, 0x8D, 0x08], 64),
+        // VPERMILPS and VUNPCKHPD with one element, VPSHUFB of 256 bits.
+        (&[0x62, 0xF2, 0x6D, 0x58, 0x0C, 0x08], 4),
+        (&[0x62, 0xF1, 0xED, 0x58, 0x15, 0x08], 8),
+        (&[0xC4, 0xE2, 0x6D, 0x00, 0x08], 32),
     ];
     for (code, wanted) in cases {
         assert_eq!(decode(code, ALL).memory as usize, wanted);

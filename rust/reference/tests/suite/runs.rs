@@ -86,7 +86,7 @@ fn sizes_come_before_the_list_limit() {
             let mut file = varied_file();
             assert_eq!(run(code, &mut file, &[0; 7], ALL, budget), ran(0, 0, 1));
             assert_eq!(run(code, &mut file, &[0; 9], ALL, budget), ran(0, 0, 1));
-            assert_eq!(run(code, &mut file, &OPEN, 32, budget), ran(0, 0, 1));
+            assert_eq!(run(code, &mut file, &OPEN, 64, budget), ran(0, 0, 1));
             assert_eq!(file, varied_file());
         }
     }

@@ -11,18 +11,30 @@ pub enum Kind {
     Vunpcklps,
     Vpshufd,
     Vperm2f128,
+    VpermilpsImmediate,
+    VpermilpsRegister,
+    Vunpckhps,
+    Vunpcklpd,
+    Vunpckhpd,
+    Vpshufb,
 }
 
-pub const KINDS: [Kind; 6] = [
+pub const KINDS: [Kind; 12] = [
     Kind::VpermilpdImmediate,
     Kind::VpermilpdRegister,
     Kind::Vpermb,
     Kind::Vunpcklps,
     Kind::Vpshufd,
     Kind::Vperm2f128,
+    Kind::VpermilpsImmediate,
+    Kind::VpermilpsRegister,
+    Kind::Vunpckhps,
+    Kind::Vunpcklpd,
+    Kind::Vunpckhpd,
+    Kind::Vpshufb,
 ];
 
-/// Mnemonic number, pp, map, opcode, element bytes, EVEX W.
+/// Mnemonic number, pp, map, opcode, element bytes, EVEX W (2 for any).
 type Facts = (u32, u8, u8, u8, usize, u8);
 
 impl Kind {
@@ -34,6 +46,12 @@ impl Kind {
             Kind::Vunpcklps => (3, 0, 1, 0x14, 4, 0),
             Kind::Vpshufd => (4, 1, 1, 0x70, 4, 0),
             Kind::Vperm2f128 => (5, 1, 3, 0x06, 16, 0),
+            Kind::VpermilpsImmediate => (6, 1, 3, 0x04, 4, 0),
+            Kind::VpermilpsRegister => (6, 1, 2, 0x0C, 4, 0),
+            Kind::Vunpckhps => (7, 0, 1, 0x15, 4, 0),
+            Kind::Vunpcklpd => (8, 1, 1, 0x14, 8, 1),
+            Kind::Vunpckhpd => (9, 1, 1, 0x15, 8, 1),
+            Kind::Vpshufb => (10, 1, 2, 0x00, 1, 2),
         }
     }
 
@@ -42,18 +60,37 @@ impl Kind {
     }
 
     pub fn has_immediate(self) -> bool {
-        matches!(
-            self,
-            Kind::VpermilpdImmediate | Kind::Vpshufd | Kind::Vperm2f128
-        )
+        self == Kind::Vperm2f128 || !self.has_first()
     }
 
     pub fn has_first(self) -> bool {
-        !matches!(self, Kind::VpermilpdImmediate | Kind::Vpshufd)
+        !matches!(
+            self,
+            Kind::VpermilpdImmediate | Kind::VpermilpsImmediate | Kind::Vpshufd
+        )
+    }
+
+    /// Whether EVEX b may repeat an element from memory.
+    pub fn has_broadcast(self) -> bool {
+        !matches!(self, Kind::Vpermb | Kind::Vperm2f128 | Kind::Vpshufb)
+    }
+
+    /// Whether W changes nothing under VEX.
+    fn has_any_vex_w(self) -> bool {
+        match self {
+            Kind::VpermilpdImmediate | Kind::VpermilpdRegister => false,
+            Kind::VpermilpsImmediate | Kind::VpermilpsRegister => false,
+            Kind::Vpermb | Kind::Vperm2f128 => false,
+            Kind::Vunpcklps | Kind::Vunpckhps | Kind::Vunpcklpd | Kind::Vunpckhpd => true,
+            Kind::Vpshufd | Kind::Vpshufb => true,
+        }
     }
 
     pub fn is_mappable(self) -> bool {
-        !matches!(self, Kind::VpermilpdRegister | Kind::Vpermb)
+        !matches!(
+            self,
+            Kind::VpermilpdRegister | Kind::VpermilpsRegister | Kind::Vpermb | Kind::Vpshufb
+        )
     }
 }
 
@@ -71,7 +108,7 @@ pub struct Sample {
     /// 0, 1, 2 for 128, 256, 512 bits.
     pub width: u8,
     /// W where it does not matter.
-    pub vex_w: u8,
+    pub spare_w: u8,
     pub destination: u8,
     pub first: u8,
     pub third: Operand,
@@ -112,13 +149,13 @@ impl Sample {
             kind,
             evex,
             width: random_width(random, kind, evex),
-            vex_w: random.below(2) as u8,
+            spare_w: random.below(2) as u8,
             destination: random.below(limit) as u8,
             first: random.below(limit) as u8,
             third,
             mask,
             zeroing: mask != 0 && random.flag(),
-            broadcast: evex && in_memory && kind != Kind::Vpermb && random.flag(),
+            broadcast: evex && in_memory && kind.has_broadcast() && random.flag(),
             immediate: random.byte(),
             spare: random.byte(),
         }
@@ -161,8 +198,8 @@ impl Sample {
         let r = (self.destination >> 3) & 1;
         let vvvv = (!first & 0x0F) << 3;
         if !self.evex {
-            let any_w = matches!(self.kind, Kind::Vunpcklps | Kind::Vpshufd);
-            let w = if any_w { self.vex_w } else { 0 };
+            let any_w = self.kind.has_any_vex_w();
+            let w = if any_w { self.spare_w } else { 0 };
             let q = vvvv | (self.width << 2) | pp;
             if map == 1 && w == 0 && b == 0 && x == 0 {
                 return vec![0xC5, ((1 - r) << 7) | q];
@@ -172,7 +209,8 @@ impl Sample {
         }
         let r2 = self.destination >> 4;
         let p = ((1 - r) << 7) | ((1 - x) << 6) | ((1 - b) << 5) | ((1 - r2) << 4) | map;
-        let q = (evex_w << 7) | vvvv | 4 | pp;
+        let w = if evex_w == 2 { self.spare_w } else { evex_w };
+        let q = (w << 7) | vvvv | 4 | pp;
         let flags = (u8::from(self.zeroing) << 7) | (u8::from(self.broadcast) << 4);
         let v2 = 1 - (first >> 4);
         vec![
@@ -223,13 +261,15 @@ impl Sample {
         }
     }
 
-    /// Needed features, by the sentence below document 01's table.
+    /// Needed features, by the sentence below document 01's table, and by request 1.
     pub fn needed(&self) -> u32 {
         match (self.evex, self.kind, self.width) {
-            (false, Kind::Vpshufd, 1) => 2,
+            (false, Kind::Vpshufd | Kind::Vpshufb, 1) => 2,
             (false, _, _) => 1,
             (true, Kind::Vpermb, 2) => 16,
             (true, Kind::Vpermb, _) => 16 + 8,
+            (true, Kind::Vpshufb, 2) => 32,
+            (true, Kind::Vpshufb, _) => 32 + 8,
             (true, _, 2) => 4,
             (true, _, _) => 4 + 8,
         }

@@ -1,9 +1,11 @@
 //! Register files, a random number source and shared checks.
 
 use reference::limits::{FILE_SIZE, REGISTER_SIZE};
-use reference::{step, Stepped};
+use reference::{step, Decoded, Stepped};
 
-pub const ALL: u32 = 31;
+pub const ALL: u32 = 63;
+/// All features of document 01, which has no AVX512BW, and all features.
+pub const EITHER: [u32; 2] = [31, ALL];
 /// Opmasks that let every element through.
 pub const OPEN: [u64; 8] = [u64::MAX; 8];
 
@@ -31,30 +33,48 @@ pub fn padded(mut bytes: Vec<u8>) -> Vec<u8> {
     bytes
 }
 
-/// Steps on the varied file and checks all 2,048 bytes: one register has the expected bytes, the
-/// others are as before.
-pub fn check_step(code: &[u8], masks: &[u64], memory: &[u8], number: usize, expected: &[u8]) {
-    check_step_on(&varied_file(), code, masks, memory, number, expected);
+/// What a step takes beside features and register file.
+#[derive(Debug, Clone, Copy)]
+pub struct Call<'a> {
+    pub code: &'a [u8],
+    pub masks: &'a [u64],
+    pub memory: &'a [u8],
 }
 
-pub fn check_step_on(
-    start: &[u8],
-    code: &[u8],
-    masks: &[u64],
-    memory: &[u8],
-    number: usize,
-    expected: &[u8],
-) {
+impl Call<'_> {
+    /// A register form that is not masked.
+    pub fn new(code: &[u8]) -> Call<'_> {
+        Call {
+            code,
+            masks: &OPEN,
+            memory: &[],
+        }
+    }
+}
+
+/// Steps from `start` under each of the features and checks all 2,048 bytes: one register has the
+/// expected bytes, the others are as before.
+pub fn check_step(call: Call, features: &[u32], start: &[u8], number: usize, expected: &[u8]) {
     let mut wanted = start.to_vec();
     wanted[number * REGISTER_SIZE..(number + 1) * REGISTER_SIZE].copy_from_slice(expected);
-    let mut file = start.to_vec();
-    let stepped = step(code, &mut file, masks, ALL, memory);
     let done = Stepped {
         status: 0,
-        length: code.len() as u32,
+        length: call.code.len() as u32,
     };
-    assert_eq!(stepped, done, "{code:02X?}");
-    assert_eq!(file, wanted, "{code:02X?}");
+    for &features in features {
+        let mut file = start.to_vec();
+        let stepped = step(call.code, &mut file, call.masks, features, call.memory);
+        assert_eq!(stepped, done, "{call:02X?}");
+        assert_eq!(file, wanted, "{call:02X?}");
+    }
+}
+
+/// A decoding that refuses.
+pub fn refusal(status: u32) -> Decoded {
+    Decoded {
+        status,
+        ..Decoded::default()
+    }
 }
 
 /// A small random number source (splitmix64).
