@@ -21,6 +21,8 @@ pub struct Row {
     pub map: u8,
     pub opcode: u8,
     pub immediate: bool,
+    /// Bytes of an element.
+    pub element: usize,
     /// Whether vvvv names a first source.
     pub first: bool,
     /// The values of L that the VEX form has; none if there is no VEX form.
@@ -29,8 +31,19 @@ pub struct Row {
     pub vex_any_w: bool,
     /// The value of W in the EVEX form; none if there is no EVEX form.
     pub evex_w: Option<u8>,
+    /// Whether W may also be the other one in the EVEX form.
+    pub evex_any_w: bool,
     /// Whether the EVEX memory form may broadcast one element.
     pub broadcast: bool,
+    /// The operand that says what is moved where, if no immediate does.
+    pub control: Option<Control>,
+}
+
+/// The operand that a control is in.
+#[derive(Debug, Clone, Copy, PartialEq, Eq)]
+pub enum Control {
+    First,
+    Third,
 }
 
 /// What most rows with a first source have.
@@ -40,11 +53,14 @@ const TWO_SOURCES: Row = Row {
     map: 0,
     opcode: 0,
     immediate: false,
+    element: 4,
     first: true,
     vex_l: &[0, 1],
     vex_any_w: false,
     evex_w: Some(0),
+    evex_any_w: false,
     broadcast: true,
+    control: None,
 };
 
 /// What the rows without a first source have.
@@ -54,15 +70,37 @@ const ONE_SOURCE: Row = Row {
     ..TWO_SOURCES
 };
 
-#[rustfmt::skip] // one line for each line of the table
-pub static ROWS: [Row; 6] = [
-    Row { name: "VPERMILPD", map: 3, opcode: 0x05, evex_w: Some(1), ..ONE_SOURCE },
-    Row { name: "VPERMILPD", map: 2, opcode: 0x0D, evex_w: Some(1), ..TWO_SOURCES },
-    Row { name: "VPERMB", map: 2, opcode: 0x8D, vex_l: &[], broadcast: false, ..TWO_SOURCES },
-    Row { name: "VUNPCKLPS", pp: 0, map: 1, opcode: 0x14, vex_any_w: true, ..TWO_SOURCES },
+/// What the rows have whose third operand is the control.
+const CONTROLLED: Row = Row {
+    map: 2,
+    control: Some(Control::Third),
+    ..TWO_SOURCES
+};
+
+/// What the rows have that take halves of lanes in turn.
+const UNPACK: Row = Row {
+    map: 1,
+    vex_any_w: true,
+    ..TWO_SOURCES
+};
+
+#[rustfmt::skip] // one or two lines for each line of the table
+pub static ROWS: [Row; 12] = [
+    Row { name: "VPERMILPD", map: 3, opcode: 0x05, element: 8, evex_w: Some(1), ..ONE_SOURCE },
+    Row { name: "VPERMILPD", opcode: 0x0D, element: 8, evex_w: Some(1), ..CONTROLLED },
+    Row { name: "VPERMB", map: 2, opcode: 0x8D, element: 1, vex_l: &[], broadcast: false,
+          control: Some(Control::First), ..TWO_SOURCES },
+    Row { name: "VUNPCKLPS", pp: 0, opcode: 0x14, ..UNPACK },
     Row { name: "VPSHUFD", map: 1, opcode: 0x70, vex_any_w: true, ..ONE_SOURCE },
-    Row { name: "VPERM2F128", map: 3, opcode: 0x06, vex_l: &[1], evex_w: None, immediate: true,
-          ..TWO_SOURCES },
+    Row { name: "VPERM2F128", map: 3, opcode: 0x06, element: 16, vex_l: &[1], evex_w: None,
+          immediate: true, broadcast: false, ..TWO_SOURCES },
+    Row { name: "VPERMILPS", map: 3, opcode: 0x04, ..ONE_SOURCE },
+    Row { name: "VPERMILPS", opcode: 0x0C, ..CONTROLLED },
+    Row { name: "VUNPCKHPS", pp: 0, opcode: 0x15, ..UNPACK },
+    Row { name: "VUNPCKLPD", opcode: 0x14, element: 8, evex_w: Some(1), ..UNPACK },
+    Row { name: "VUNPCKHPD", opcode: 0x15, element: 8, evex_w: Some(1), ..UNPACK },
+    Row { name: "VPSHUFB", opcode: 0x00, element: 1, vex_any_w: true, evex_any_w: true,
+          broadcast: false, ..CONTROLLED },
 ];
 
 /// A row under one of its prefixes, with a register or memory as the third operand.
@@ -139,7 +177,8 @@ impl Shape {
             }
             Prefix::Evex => {
                 let rxbr = random.bits(4);
-                let w = row.evex_w.unwrap_or(0);
+                let any_w = row.evex_any_w && random.flag();
+                let w = row.evex_w.unwrap_or(0) ^ u8::from(any_w);
                 let q = w << 7 | vvvv << 3 | 1 << 2 | row.pp;
                 vec![0x62, rxbr << 4 | row.map, q, self.evex_s(random)]
             }

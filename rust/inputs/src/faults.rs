@@ -40,7 +40,10 @@ pub const BUILD_FAULTS: [(Fault, u32); 6] = [
 ];
 
 /// All features, and sets with which some instructions are accepted and others not.
-pub const FEATURE_SETS: [u32; 8] = [ALL, ALL - 16, ALL - 8, ALL - 4, ALL - 2, ALL - 1, 3, 12];
+#[rustfmt::skip] // one feature less in each
+pub const FEATURE_SETS: [u32; 9] = [
+    ALL, ALL - 32, ALL - 16, ALL - 8, ALL - 4, ALL - 2, ALL - 1, 3, 12,
+];
 
 impl Fault {
     /// An instruction with this fault and no other, or nothing if these features have none.
@@ -77,8 +80,9 @@ impl Fault {
 /// An encoding that no row has: by its first byte, its opcode, or its EVEX W. None of them belongs to
 /// a permute, so that new rows change nothing here.
 fn no_row(random: &mut Random) -> Vec<u8> {
-    // The opcode of VPERMB with the other W is VPERMW.
-    let evex = Mix::of(|form| is_evex(form) && form.shape.row.name != "VPERMB");
+    // With the other W, VPERMB's opcode is VPERMW, and VPSHUFB's is VPSHUFB still.
+    let has_one_w = |form: Form| !matches!(form.shape.row.name, "VPERMB" | "VPSHUFB");
+    let evex = Mix::of(|form| is_evex(form) && has_one_w(form));
     let mut code = evex.instruction(32, random);
     match random.below(3) {
         0 => code[0] = random.pick(&[0x00, 0x0F, 0x90, 0xC3, 0xFF]),
@@ -92,14 +96,16 @@ fn no_row(random: &mut Random) -> Vec<u8> {
 fn reserved(random: &mut Random) -> Vec<u8> {
     // A row, and the bits that break it: byte, bits to set, bits to clear.
     type Broken = (fn(Form) -> bool, usize, u8, u8);
-    const BROKEN: [Broken; 10] = [
-        (is_evex, 1, 0x04, 0),
-        (is_evex, 1, 0x08, 0),
-        (is_evex, 2, 0, 0x04),
+    const BROKEN: [Broken; 11] = [
+        (is_register_evex, 1, 0x04, 0),
+        (is_register_evex, 1, 0x08, 0),
+        (is_register_evex, 2, 0, 0x04),
         // Width 3, broadcast from a register, zeroing without opmask.
-        (is_evex, 3, 0x60, 0),
-        (is_evex, 3, 0x10, 0),
-        (is_evex, 3, 0x80, 0x07),
+        (is_register_evex, 3, 0x60, 0),
+        (is_register_evex, 3, 0x10, 0),
+        (is_register_evex, 3, 0x80, 0x07),
+        // Broadcast from memory of a row that has none.
+        (is_whole_memory_evex, 3, 0x10, 0),
         // vvvv and V' without a first source.
         (is_one_source_evex, 2, 0, 0x08),
         (is_one_source_evex, 3, 0, 0x08),
@@ -108,8 +114,7 @@ fn reserved(random: &mut Random) -> Vec<u8> {
         (is_vperm2f128, 2, 0, 0x04),
     ];
     let (fits, at, set, clear) = random.pick(&BROKEN);
-    let mix = Mix::of(|form| fits(form) && !form.shape.memory);
-    let mut code = mix.instruction(32, random);
+    let mut code = Mix::of(fits).instruction(32, random);
     code[at] = (code[at] | set) & !clear;
     code
 }
@@ -118,14 +123,22 @@ fn is_evex(form: Form) -> bool {
     form.shape.prefix == Prefix::Evex
 }
 
+fn is_register_evex(form: Form) -> bool {
+    is_evex(form) && !form.shape.memory
+}
+
+fn is_whole_memory_evex(form: Form) -> bool {
+    is_evex(form) && form.shape.memory && !form.shape.row.broadcast
+}
+
 fn is_one_source_evex(form: Form) -> bool {
-    is_evex(form) && !form.shape.row.first
+    is_register_evex(form) && !form.shape.row.first
 }
 
 fn is_w0_vex(form: Form) -> bool {
-    form.shape.prefix == Prefix::Vex3 && !form.shape.row.vex_any_w
+    form.shape.prefix == Prefix::Vex3 && !form.shape.row.vex_any_w && !form.shape.memory
 }
 
 fn is_vperm2f128(form: Form) -> bool {
-    form.shape.row.name == "VPERM2F128"
+    form.shape.row.name == "VPERM2F128" && !form.shape.memory
 }

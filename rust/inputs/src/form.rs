@@ -64,22 +64,17 @@ impl Form {
         match (self.shape.memory, self.broadcast) {
             (false, _) => 0,
             (true, false) => self.bytes(),
-            // In EVEX, W tells elements of 8 bytes from those of 4.
-            (true, true) if self.shape.row.evex_w == Some(1) => 8,
-            (true, true) => 4,
+            (true, true) => self.shape.row.element,
         }
     }
 
     /// The features that this form needs.
     pub fn features(self) -> u32 {
-        let is_vpermb = self.shape.row.name == "VPERMB";
-        let is_vpshufd = self.shape.row.name == "VPSHUFD";
+        let name = self.shape.row.name;
         match (self.shape.prefix, self.width) {
-            (Prefix::Evex, 2) if is_vpermb => features::AVX512_VBMI,
-            (Prefix::Evex, 2) => features::AVX512F,
-            (Prefix::Evex, _) if is_vpermb => features::AVX512_VBMI | features::AVX512VL,
-            (Prefix::Evex, _) => features::AVX512F | features::AVX512VL,
-            (_, 1) if is_vpshufd => features::AVX2,
+            (Prefix::Evex, 2) => evex_feature(name),
+            (Prefix::Evex, _) => evex_feature(name) | features::AVX512VL,
+            (_, 1) if matches!(name, "VPSHUFD" | "VPSHUFB") => features::AVX2,
             _ => features::AVX,
         }
     }
@@ -91,8 +86,7 @@ impl Form {
 
     /// Whether a register or memory holds what is to be moved where.
     pub fn has_register_control(self) -> bool {
-        let row = self.shape.row;
-        row.name == "VPERMB" || (row.name == "VPERMILPD" && !row.immediate)
+        self.shape.row.control.is_some()
     }
 
     pub fn combination(self) -> Combination {
@@ -106,6 +100,15 @@ impl Form {
             broadcast: self.broadcast,
             memory: self.shape.memory,
         }
+    }
+}
+
+/// The feature of an EVEX form, whatever its width.
+fn evex_feature(name: &str) -> u32 {
+    match name {
+        "VPERMB" => features::AVX512_VBMI,
+        "VPSHUFB" => features::AVX512BW,
+        _ => features::AVX512F,
     }
 }
 

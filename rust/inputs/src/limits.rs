@@ -20,5 +20,8 @@ pub mod features {
     pub const AVX512F: u32 = 1 << 2;
     pub const AVX512VL: u32 = 1 << 3;
     pub const AVX512_VBMI: u32 = 1 << 4;
-    pub const ALL: u32 = 31;
+    pub const AVX512BW: u32 = 1 << 5;
+    pub const ALL: u32 = 63;
+    /// How many sets of features there are: every number below it is one.
+    pub const SETS: usize = ALL as usize + 1;
 }
