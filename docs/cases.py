@@ -132,7 +132,7 @@ def show(case, numbers):
 
 
 def main():
-    print("features: 31")
+    print("features: 63")
     print("masks:" + "".join(f" {m:x}" for m in MASKS))
     print("files: byte p is (p + 1) % 256 in the low file and (p + 1) / 256 in the high file")
     print("memory: byte j is (3001 + j) % 256 for the low file and (3001 + j) / 256 for the high file")

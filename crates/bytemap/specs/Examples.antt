@@ -6,7 +6,7 @@ use lib.ListN.{replicate, take, drop}
 use Rattle.seq.specs.Tabulate.{tabulate}
 use Rattle.isa.specs.Kinds.{registerBytes, maskCount, mapEntries, zeroEntry}
 use Rattle.isa.specs.Features.{hasFeature}
-use Rattle.isa.specs.Operands.{widthOf, elementOf, digitsOf, moveFrom, controlOf}
+use Rattle.isa.specs.Operands.{widthOf, elementOf, digitsOf, halfOf, moveFrom, controlOf}
 use Rattle.isa.specs.Table.{rows, findIn, matchesRow, matchesW}
 use Rattle.isa.specs.declared.refusal.Refusal.the-variants.{Argument, Truncated, Unlisted, Unmappable, TooLong, BadEntry}
 use Rattle.decode.specs.Prefix.{prefixSize, prefixOf, fixedBits, headOf}
@@ -35,22 +35,31 @@ abbrev pub list : List ℕ
 list = 0xC5 ∷ 0xF9 ∷ 0x70 ∷ 0xCA ∷ 0x1B ∷ 0xC5 ∷ 0xE8 ∷ 0x14 ∷ 0xCB ∷ 0xC5 ∷ 0xF9 ∷ 0x70 ∷ 0x08 ∷ 0x1B ∷ []
 
 abbrev pub builds : List ℕ → Built
-builds code = buildOf code 8 31 2048
+builds code = buildOf code 8 63 2048
 
--- that list, its first two steps, cut off within the second, and empty; VPERMILPD and VPERMB with their control in a register
-pub steps : builds list ∷ builds (take 9 list) ∷ builds (take 8 list) ∷ builds [] ∷ builds (0xC4 ∷ 0xE2 ∷ 0x69 ∷ 0x0D ∷ 0xCB ∷ []) ∷ builds (0x62 ∷ 0xF2 ∷ 0x6D ∷ 0x48 ∷ 0x8D ∷ 0xCB ∷ []) ∷ []
+-- request 1: VPERMILPS with an immediate, VUNPCKHPS, VUNPCKLPD and VUNPCKHPD; then VPSHUFB
+abbrev pub requested : List ℕ
+requested = 0xC4 ∷ 0xE3 ∷ 0x79 ∷ 0x04 ∷ 0xCA ∷ 0x1B ∷ 0xC5 ∷ 0xE8 ∷ 0x15 ∷ 0xCB ∷ 0xC5 ∷ 0xE9 ∷ 0x14 ∷ 0xCB ∷ 0xC5 ∷ 0xE9 ∷ 0x15 ∷ 0xCB ∷ 0xC4 ∷ 0xE2 ∷ 0x69 ∷ 0x00 ∷ 0xCB ∷ []
+
+-- the first list, its first two steps, cut off within the second, and empty; VPERMILPD and VPERMB with their control in a register; then the second
+-- list, without its last step, and VPERMILPS with its control in a register
+pub steps : builds list ∷ builds (take 9 list) ∷ builds (take 8 list) ∷ builds [] ∷ builds (0xC4 ∷ 0xE2 ∷ 0x69 ∷ 0x0D ∷ 0xCB ∷ []) ∷ builds (0x62 ∷ 0xF2 ∷ 0x6D ∷ 0x48 ∷ 0x8D ∷ 0xCB ∷ [])
+    ∷ builds requested ∷ builds (take 18 requested) ∷ builds (0xC4 ∷ 0xE2 ∷ 0x69 ∷ 0x0C ∷ 0xCB ∷ []) ∷ []
     ≡ built 9 (Answer.Refused Unmappable)
     ∷ built 9 Answer.Done
     ∷ built 5 (Answer.Refused Truncated)
     ∷ built 0 Answer.Done
     ∷ built 0 (Answer.Refused Unmappable)
     ∷ built 0 (Answer.Refused Unmappable)
+    ∷ built 18 (Answer.Refused Unmappable)
+    ∷ built 18 Answer.Done
+    ∷ built 0 (Answer.Refused Unmappable)
     ∷ []
-unfolding buildOf scannedOf buildSplit split mappable decodeOf knownOf onHead onRow onTotal finishOf headOf prefixSize prefixOf fixedBits rows findIn matchesRow matchesW sibSize displacementSize checkOf wrongW wrongWidth wrongVvvv wrongBroadcast wrongZeroing enoughOf neededOf hasFeature instructionOf encodingOf firstOf thirdOf immediateOf widthOf elementOf digitsOf moveFrom controlOf
+unfolding buildOf scannedOf buildSplit split mappable decodeOf knownOf onHead onRow onTotal finishOf headOf prefixSize prefixOf fixedBits rows findIn matchesRow matchesW sibSize displacementSize checkOf wrongW wrongWidth wrongVvvv wrongBroadcast wrongZeroing enoughOf neededOf hasFeature instructionOf encodingOf firstOf thirdOf immediateOf widthOf elementOf digitsOf halfOf moveFrom controlOf
 steps = refl
 
 -- a list of as many bytes as may be, of one more, and that with wrong masks, a wrong map or wrong features
-pub order : buildOf (replicate 4096 0) 8 31 2048 ∷ buildOf (replicate 4097 0) 8 31 2048 ∷ buildOf (replicate 4097 0) 7 31 2048 ∷ buildOf (replicate 4097 0) 8 31 2047 ∷ buildOf (replicate 4097 0) 8 32 2048 ∷ []
+pub order : buildOf (replicate 4096 0) 8 63 2048 ∷ buildOf (replicate 4097 0) 8 63 2048 ∷ buildOf (replicate 4097 0) 7 63 2048 ∷ buildOf (replicate 4097 0) 8 63 2047 ∷ buildOf (replicate 4097 0) 8 64 2048 ∷ []
     ≡ built 0 (Answer.Refused Unlisted) ∷ built 0 (Answer.Refused TooLong) ∷ replicate 3 (built 0 (Answer.Refused Argument))
 unfolding buildOf scannedOf buildSplit split decodeOf knownOf prefixSize prefixOf headOf onHead
 order = refl
@@ -63,7 +72,7 @@ twice = 0xC5 ∷ 0xF9 ∷ 0x70 ∷ 0xCA ∷ 0x1B ∷ 0xC5 ∷ 0xF9 ∷ 0x70 ∷ 
 -- registers 1, 2 and 3
 pub entries : take (3 * registerBytes) (drop registerBytes (mapBuilt twice (replicate maskCount 0) 31 (replicate mapEntries 0)))
     ≡ (turned 2 0 ++ cleared 48) ++ tabulate 64 (λ b. 2 * registerBytes + b) ++ (dword 2 0 ++ dword 2 1 ++ dword 2 2 ++ dword 2 3 ++ cleared 48)
-unfolding mapBuilt mapOf mapsOf identity tabulate moved placed entryOf controlAt originBy pickOf digit bitsOf written buildSplit split mappable decodeOf knownOf onHead onRow onTotal finishOf headOf prefixSize prefixOf fixedBits rows findIn matchesRow matchesW sibSize displacementSize checkOf wrongW wrongWidth wrongVvvv wrongBroadcast wrongZeroing enoughOf neededOf hasFeature instructionOf encodingOf firstOf thirdOf immediateOf widthOf elementOf digitsOf moveFrom controlOf
+unfolding mapBuilt mapOf mapsOf identity tabulate moved placed entryOf controlAt originBy pickOf digit bitsOf written buildSplit split mappable decodeOf knownOf onHead onRow onTotal finishOf headOf prefixSize prefixOf fixedBits rows findIn matchesRow matchesW sibSize displacementSize checkOf wrongW wrongWidth wrongVvvv wrongBroadcast wrongZeroing enoughOf neededOf hasFeature instructionOf encodingOf firstOf thirdOf immediateOf widthOf elementOf digitsOf halfOf moveFrom controlOf
 entries = refl
 
 -- ---- applying and composing

@@ -9,7 +9,7 @@ use borrow.Author.Tests.{eq-eqb}
 use Rattle.seq.proofs.Tabulate.{getD-tabulate}
 use Rattle.isa.specs.Kinds.{maskCount, mapEntries, zeroEntry}
 use Rattle.isa.specs.Features.{allFeatures, hasFeature}
-use Rattle.isa.specs.Operands.{widthOf, elementOf, digitsOf, moveFrom, controlOf}
+use Rattle.isa.specs.Operands.{widthOf, elementOf, digitsOf, halfOf, moveFrom, controlOf}
 use Rattle.isa.specs.Table.{rows, findIn, matchesRow, matchesW}
 use Rattle.decode.specs.Prefix.{prefixSize, prefixOf, fixedBits, headOf}
 use Rattle.decode.specs.Modrm.{sibSize, displacementSize}
@@ -43,7 +43,7 @@ module _ (masks : List ℕ) where
     entry3 : readEntry (mapOf into3 masks allFeatures) 80 ≡ 80
 
   computed : length masks ≡ maskCount → Computed
-  unfolding Accepted buildOf scannedOf mapOf mapsOf buildSplit mappable split decodeOf knownOf onHead onRow onTotal finishOf headOf prefixSize prefixOf fixedBits rows findIn matchesRow matchesW sibSize displacementSize checkOf wrongW wrongWidth wrongVvvv wrongBroadcast wrongZeroing enoughOf neededOf hasFeature instructionOf encodingOf firstOf thirdOf immediateOf widthOf elementOf digitsOf moveFrom controlOf
+  unfolding Accepted buildOf scannedOf mapOf mapsOf buildSplit mappable split decodeOf knownOf onHead onRow onTotal finishOf headOf prefixSize prefixOf fixedBits rows findIn matchesRow matchesW sibSize displacementSize checkOf wrongW wrongWidth wrongVvvv wrongBroadcast wrongZeroing enoughOf neededOf hasFeature instructionOf encodingOf firstOf thirdOf immediateOf widthOf elementOf digitsOf halfOf moveFrom controlOf
   computed e =
       let t = eq-eqb (length masks) maskCount e in
       let h : 80 < length identity = rw length-identity (lit< tt) in

@@ -1,6 +1,6 @@
 -- The worked cases at the end of docs/RULES.md: what decoding gives and, where the case says so, where the destination's bytes come from. The starred
 -- ones, all with features 31, then further ones: those that are not starred, cases in which two rules meet, and single rules that no starred case
--- looks at.
+-- looks at. Then those of request 1. The starred ones hold under all features too.
 use Prim.Native.Nat.{ℕ, _+_, _*_}
 use mathlib.Core.Path.{_≡_, refl}
 use mathlib.Core.Bool.{Bool, true, false}
@@ -8,9 +8,9 @@ use mathlib.Core.List.{List, [], _∷_, _++_, map}
 use lib.ListN.{replicate}
 use Rattle.seq.specs.Tabulate.{tabulate}
 use Rattle.isa.specs.Kinds.{registerBytes, zeroEntry}
-use Rattle.isa.specs.Features.{hasFeature}
+use Rattle.isa.specs.Features.{allFeatures, hasFeature}
 use Rattle.isa.specs.Operands as Names
-use Rattle.isa.specs.Operands.{widthOf, elementOf, digitsOf, moveFrom, controlOf}
+use Rattle.isa.specs.Operands.{widthOf, elementOf, digitsOf, halfOf, moveFrom, controlOf}
 use Rattle.isa.specs.Table.{rows, findIn, matchesRow, matchesW}
 use Rattle.isa.specs.declared.operands.Mnemonic.{Mnemonic}
 use Rattle.isa.specs.declared.operands.Encoding.{Encoding}
@@ -20,8 +20,9 @@ use Rattle.isa.specs.declared.operands.Width.the-variants.{Bits128, Bits256, Bi
 use Rattle.isa.specs.declared.operands.Element.{Element}
 use Rattle.isa.specs.declared.operands.Element.the-variants.{Byte, Doubleword, Quadword, Lane}
 use Rattle.isa.specs.declared.operands.Digits.the-variants.{One, Two}
+use Rattle.isa.specs.declared.operands.Half.the-variants.{Low, High}
 use Rattle.isa.specs.declared.operands.Move.{Move}
-use Rattle.isa.specs.declared.operands.Move.the-variants.{ByDigit, InLane, Anywhere, LowHalves, LaneOrZero}
+use Rattle.isa.specs.declared.operands.Move.the-variants.{ByDigit, InLane, Anywhere, Halves, LaneOrZero, InLaneOrZero}
 use Rattle.isa.specs.declared.operands.Control.{Control}
 use Rattle.isa.specs.declared.refusal.Field.{Field}
 use Rattle.isa.specs.declared.refusal.Field.the-variants.{FixedBits, W, Width as WidthField, Vvvv, Broadcast, Zeroing}
@@ -78,10 +79,28 @@ abbrev pub vpermb : Listed
 vpermb = record { name = Names.vpermb; element = Byte; moves = Anywhere; control = Control.First }
 
 abbrev pub vunpcklps : Listed
-vunpcklps = record { name = Names.vunpcklps; element = Doubleword; moves = LowHalves; control = Control.Nowhere }
+vunpcklps = record { name = Names.vunpcklps; element = Doubleword; moves = Halves Low; control = Control.Nowhere }
 
 abbrev pub vperm2f128 : Listed
 vperm2f128 = record { name = Names.vperm2f128; element = Lane; moves = LaneOrZero; control = Control.Immediate }
+
+abbrev pub vpermilps : Listed
+vpermilps = record { name = Names.vpermilps; element = Doubleword; moves = ByDigit Two Bits128; control = Control.Immediate }
+
+abbrev pub vpermilpsRegister : Listed
+vpermilpsRegister = record { name = Names.vpermilps; element = Doubleword; moves = InLane 0; control = Control.Third }
+
+abbrev pub vunpckhps : Listed
+vunpckhps = record { name = Names.vunpckhps; element = Doubleword; moves = Halves High; control = Control.Nowhere }
+
+abbrev pub vunpcklpd : Listed
+vunpcklpd = record { name = Names.vunpcklpd; element = Quadword; moves = Halves Low; control = Control.Nowhere }
+
+abbrev pub vunpckhpd : Listed
+vunpckhpd = record { name = Names.vunpckhpd; element = Quadword; moves = Halves High; control = Control.Nowhere }
+
+abbrev pub vpshufb : Listed
+vpshufb = record { name = Names.vpshufb; element = Byte; moves = InLaneOrZero; control = Control.Third }
 
 -- encoding, width, destination, first source, third operand, mask, z, b, immediate, length
 abbrev pub operands : Listed → Encoding → Width → ℕ → First → Third → ℕ → Bool → Bool → Immediate → ℕ → Decoded
@@ -117,6 +136,11 @@ byImmediate listed encoding width destination third mask z b immediate length =
 abbrev pub ofThree : Listed → Encoding → Width → ℕ → ℕ → ℕ → Immediate → ℕ → Decoded
 ofThree listed encoding width destination first third immediate length =
     operands listed encoding width destination (source first) (register third) 0 false false immediate length
+
+-- an EVEX form of 512 bits with a first source and a broadcast element of n bytes
+abbrev pub repeating : Listed → ℕ → ℕ → ℕ → ℕ → Decoded
+repeating listed destination first n length =
+    operands listed Evex Bits512 destination (source first) (Third.Memory n) 0 false true Immediate.Absent length
 
 -- ---- where bytes come from
 
@@ -155,7 +179,7 @@ starredCases =
     ∷ []
 
 -- cases 13 to 16, VPERM2F128 by 21, and a destination that is its own source; R, B, X and V' in registers; the forms of displacement; an opcode
--- in another map, and a broadcast quadword; then, in the order of rule 5.3: features over the limit; fixed bits before an unknown opcode; EVEX with
+-- in another map, and a broadcast quadword; then, in the order of rule 5.3: features over the limit and at it; fixed bits before an unknown opcode; EVEX with
 -- another W, and with its own; short bytes before a wrong width and before a missing feature; W, V' and vvvv; a wrong field before a missing feature;
 -- the feature of a row, and the one that is not asked for besides; AVX512VL; each feature's bit by itself
 unfoldable pub furtherCases : List Case
@@ -177,7 +201,8 @@ furtherCases =
     ∷ case (0xC5 ∷ 0xF9 ∷ 0x70 ∷ 0x88 ∷ 1 ∷ 2 ∷ 3 ∷ 4 ∷ 0x1B ∷ []) 31 0 (byImmediate vpshufd Vex Bits128 1 (Third.Memory 16) 0 false false 0x1B 9)
     ∷ case (0x62 ∷ 0xF1 ∷ 0xFD ∷ 0x18 ∷ 0x05 ∷ []) 31 3 (Refused Unlisted)
     ∷ case (0x62 ∷ 0xF3 ∷ 0xFD ∷ 0x18 ∷ 0x05 ∷ 0x08 ∷ 0x01 ∷ []) 31 0 (byImmediate vpermilpd Evex Bits128 1 (Third.Memory 8) 0 false true 0x01 7)
-    ∷ case [] 32 1 (Refused Argument)
+    ∷ case [] 64 1 (Refused Argument)
+    ∷ case [] 63 2 (Refused Truncated)
     ∷ case (0x62 ∷ 0xFD ∷ 0x7D ∷ 0x48 ∷ 0xFF ∷ []) 31 4 (wrong FixedBits)
     ∷ case (0x62 ∷ 0xF2 ∷ 0xED ∷ 0x48 ∷ 0x8D ∷ 0xCB ∷ []) 31 3 (Refused Unlisted)
     ∷ case (0x62 ∷ 0xF2 ∷ 0x6D ∷ 0x48 ∷ 0x0D ∷ 0xCB ∷ []) 31 3 (Refused Unlisted)
@@ -197,6 +222,44 @@ furtherCases =
     ∷ case (0x62 ∷ 0xF1 ∷ 0x7D ∷ 0x48 ∷ 0x70 ∷ 0xCA ∷ 0x1B ∷ []) 4 0 (byImmediate vpshufd Evex Bits512 1 (register 2) 0 false false 0x1B 7)
     ∷ []
 
+-- request 1: VUNPCKHPS; VPERMILPS by 1B, which moves as VPSHUFD by 1B; VPSHUFB with either W, with b, and without AVX512BW; VUNPCKLPD with either W
+-- under VEX, and by W under EVEX. Then the other lines of the table, with VUNPCKHPD of 512 bits; W, vvvv and EVEX W of VPERMILPS; broadcasts; and
+-- VPSHUFB's features: AVX, AVX2 at 256 bits, AVX512BW by itself, and AVX512VL with it
+unfoldable pub requestedCases : List Case
+requestedCases =
+    moving (0xC5 ∷ 0xE8 ∷ 0x15 ∷ 0xCB ∷ []) 63 (ofThree vunpckhps Vex Bits128 1 2 3 Immediate.Absent 4) (dword 2 2 ++ dword 3 2 ++ dword 2 3 ++ dword 3 3 ++ cleared 48)
+    ∷ moving (0xC4 ∷ 0xE3 ∷ 0x79 ∷ 0x04 ∷ 0xCA ∷ 0x1B ∷ []) 63 (byImmediate vpermilps Vex Bits128 1 (register 2) 0 false false 0x1B 6) (turned 2 0 ++ cleared 48)
+    ∷ case (0x62 ∷ 0xF2 ∷ 0x6D ∷ 0x48 ∷ 0x00 ∷ 0xCB ∷ []) 63 0 (ofThree vpshufb Evex Bits512 1 2 3 Immediate.Absent 6)
+    ∷ case (0x62 ∷ 0xF2 ∷ 0xED ∷ 0x48 ∷ 0x00 ∷ 0xCB ∷ []) 63 0 (ofThree vpshufb Evex Bits512 1 2 3 Immediate.Absent 6)
+    ∷ case (0x62 ∷ 0xF2 ∷ 0x6D ∷ 0x58 ∷ 0x00 ∷ 0x08 ∷ []) 63 4 (wrong Broadcast)
+    ∷ case (0x62 ∷ 0xF2 ∷ 0x6D ∷ 0x48 ∷ 0x00 ∷ 0xCB ∷ []) 31 5 (Refused Feature)
+    ∷ moving (0xC5 ∷ 0xE9 ∷ 0x14 ∷ 0xCB ∷ []) 63 (ofThree vunpcklpd Vex Bits128 1 2 3 Immediate.Absent 4) (qword 2 0 ++ qword 3 0 ++ cleared 48)
+    ∷ moving (0xC4 ∷ 0xE1 ∷ 0xE9 ∷ 0x14 ∷ 0xCB ∷ []) 63 (ofThree vunpcklpd Vex Bits128 1 2 3 Immediate.Absent 5) (qword 2 0 ++ qword 3 0 ++ cleared 48)
+    ∷ case (0x62 ∷ 0xF1 ∷ 0x6D ∷ 0x48 ∷ 0x14 ∷ 0xCB ∷ []) 63 3 (Refused Unlisted)
+    ∷ moving (0x62 ∷ 0xF1 ∷ 0xED ∷ 0x48 ∷ 0x14 ∷ 0xCB ∷ []) 63 (ofThree vunpcklpd Evex Bits512 1 2 3 Immediate.Absent 6)
+    (qword 2 0 ++ qword 3 0 ++ qword 2 2 ++ qword 3 2 ++ qword 2 4 ++ qword 3 4 ++ qword 2 6 ++ qword 3 6)
+    ∷ moving (0x62 ∷ 0xF1 ∷ 0xED ∷ 0x48 ∷ 0x15 ∷ 0xCB ∷ []) 63 (ofThree vunpckhpd Evex Bits512 1 2 3 Immediate.Absent 6)
+    (qword 2 1 ++ qword 3 1 ++ qword 2 3 ++ qword 3 3 ++ qword 2 5 ++ qword 3 5 ++ qword 2 7 ++ qword 3 7)
+    ∷ case (0xC5 ∷ 0xED ∷ 0x15 ∷ 0xCB ∷ []) 63 0 (ofThree vunpckhpd Vex Bits256 1 2 3 Immediate.Absent 4)
+    ∷ case (0xC4 ∷ 0xE2 ∷ 0x6D ∷ 0x0C ∷ 0xCB ∷ []) 63 0 (ofThree vpermilpsRegister Vex Bits256 1 2 3 Immediate.Absent 5)
+    ∷ case (0xC4 ∷ 0xE2 ∷ 0xE9 ∷ 0x00 ∷ 0xCB ∷ []) 63 0 (ofThree vpshufb Vex Bits128 1 2 3 Immediate.Absent 5)
+    ∷ case (0xC4 ∷ 0xE3 ∷ 0xF9 ∷ 0x04 ∷ 0xCA ∷ 0x1B ∷ []) 63 4 (wrong W)
+    ∷ case (0xC4 ∷ 0xE3 ∷ 0x69 ∷ 0x04 ∷ 0xCA ∷ 0x1B ∷ []) 63 4 (wrong Vvvv)
+    ∷ case (0x62 ∷ 0xF3 ∷ 0xFD ∷ 0x48 ∷ 0x04 ∷ 0xCA ∷ 0x1B ∷ []) 63 3 (Refused Unlisted)
+    ∷ case (0x62 ∷ 0xF1 ∷ 0xEC ∷ 0x48 ∷ 0x15 ∷ 0xCB ∷ []) 63 3 (Refused Unlisted)
+    ∷ case (0x62 ∷ 0xF3 ∷ 0x7D ∷ 0x58 ∷ 0x04 ∷ 0x08 ∷ 0x1B ∷ []) 63 0 (byImmediate vpermilps Evex Bits512 1 (Third.Memory 4) 0 false true 0x1B 7)
+    ∷ case (0x62 ∷ 0xF2 ∷ 0x6D ∷ 0x58 ∷ 0x0C ∷ 0x08 ∷ []) 63 0 (repeating vpermilpsRegister 1 2 4 6)
+    ∷ case (0x62 ∷ 0xF1 ∷ 0x6C ∷ 0x58 ∷ 0x15 ∷ 0x08 ∷ []) 63 0 (repeating vunpckhps 1 2 4 6)
+    ∷ case (0x62 ∷ 0xF1 ∷ 0xED ∷ 0x58 ∷ 0x14 ∷ 0x08 ∷ []) 63 0 (repeating vunpcklpd 1 2 8 6)
+    ∷ case (0x62 ∷ 0xF1 ∷ 0xED ∷ 0x58 ∷ 0x15 ∷ 0x08 ∷ []) 63 0 (repeating vunpckhpd 1 2 8 6)
+    ∷ case (0xC4 ∷ 0xE2 ∷ 0x69 ∷ 0x00 ∷ 0xCB ∷ []) 1 0 (ofThree vpshufb Vex Bits128 1 2 3 Immediate.Absent 5)
+    ∷ case (0xC4 ∷ 0xE2 ∷ 0x6D ∷ 0x00 ∷ 0xCB ∷ []) 1 5 (Refused Feature)
+    ∷ case (0xC4 ∷ 0xE2 ∷ 0x6D ∷ 0x00 ∷ 0xCB ∷ []) 2 0 (ofThree vpshufb Vex Bits256 1 2 3 Immediate.Absent 5)
+    ∷ case (0x62 ∷ 0xF2 ∷ 0x6D ∷ 0x48 ∷ 0x00 ∷ 0xCB ∷ []) 32 0 (ofThree vpshufb Evex Bits512 1 2 3 Immediate.Absent 6)
+    ∷ case (0x62 ∷ 0xF2 ∷ 0x6D ∷ 0x28 ∷ 0x00 ∷ 0xCB ∷ []) 32 5 (Refused Feature)
+    ∷ case (0x62 ∷ 0xF2 ∷ 0x6D ∷ 0x28 ∷ 0x00 ∷ 0xCB ∷ []) 40 0 (ofThree vpshufb Evex Bits256 1 2 3 Immediate.Absent 6)
+    ∷ []
+
 -- every case decodes as it says, and its answer has its number
 abbrev pub Decodes : List Case → Type 0
 Decodes cases =
@@ -204,9 +267,22 @@ Decodes cases =
     × (map (λ (c : Case). answerOf (c .gives)) cases ≡ map (λ (c : Case). c .answer) cases)
 
 pub starred-decode : Decodes starredCases
-unfolding starredCases decodeOf knownOf onHead onRow onTotal finishOf headOf prefixSize prefixOf fixedBits rows findIn matchesRow matchesW sibSize displacementSize checkOf wrongW wrongWidth wrongVvvv wrongBroadcast wrongZeroing enoughOf neededOf hasFeature instructionOf encodingOf firstOf thirdOf immediateOf widthOf elementOf digitsOf moveFrom controlOf
+unfolding starredCases decodeOf knownOf onHead onRow onTotal finishOf headOf prefixSize prefixOf fixedBits rows findIn matchesRow matchesW sibSize displacementSize checkOf wrongW wrongWidth wrongVvvv wrongBroadcast wrongZeroing enoughOf neededOf hasFeature instructionOf encodingOf firstOf thirdOf immediateOf widthOf elementOf digitsOf halfOf moveFrom controlOf
 starred-decode = (refl, refl)
 
+-- the same cases under other features
+abbrev pub under : ℕ → List Case → List Case
+under features cases =
+    map (λ (c : Case). record { bytes = c .bytes; features = features; answer = c .answer; gives = c .gives; places = c .places }) cases
+
+pub starred-decode-all : Decodes (under allFeatures starredCases)
+unfolding starredCases decodeOf knownOf onHead onRow onTotal finishOf headOf prefixSize prefixOf fixedBits rows findIn matchesRow matchesW sibSize displacementSize checkOf wrongW wrongWidth wrongVvvv wrongBroadcast wrongZeroing enoughOf neededOf hasFeature instructionOf encodingOf firstOf thirdOf immediateOf widthOf elementOf digitsOf halfOf moveFrom controlOf
+starred-decode-all = (refl, refl)
+
 pub further-decode : Decodes furtherCases
-unfolding furtherCases decodeOf knownOf onHead onRow onTotal finishOf headOf prefixSize prefixOf fixedBits rows findIn matchesRow matchesW sibSize displacementSize checkOf wrongW wrongWidth wrongVvvv wrongBroadcast wrongZeroing enoughOf neededOf hasFeature instructionOf encodingOf firstOf thirdOf immediateOf widthOf elementOf digitsOf moveFrom controlOf
+unfolding furtherCases decodeOf knownOf onHead onRow onTotal finishOf headOf prefixSize prefixOf fixedBits rows findIn matchesRow matchesW sibSize displacementSize checkOf wrongW wrongWidth wrongVvvv wrongBroadcast wrongZeroing enoughOf neededOf hasFeature instructionOf encodingOf firstOf thirdOf immediateOf widthOf elementOf digitsOf halfOf moveFrom controlOf
 further-decode = (refl, refl)
+
+pub requested-decode : Decodes requestedCases
+unfolding requestedCases decodeOf knownOf onHead onRow onTotal finishOf headOf prefixSize prefixOf fixedBits rows findIn matchesRow matchesW sibSize displacementSize checkOf wrongW wrongWidth wrongVvvv wrongBroadcast wrongZeroing enoughOf neededOf hasFeature instructionOf encodingOf firstOf thirdOf immediateOf widthOf elementOf digitsOf halfOf moveFrom controlOf
+requested-decode = (refl, refl)

@@ -6,6 +6,7 @@ ghost use Rattle.isa.specs.Table.{rows, blank, matchesW, matchesRow, fin
 use crate::features::Features;
 use crate::operands::Control;
 use crate::operands::Encoding;
+use crate::operands::Half;
 use crate::operands::Mnemonic;
 use crate::operands::Move;
 use crate::operands::Width;
@@ -32,7 +33,7 @@ pub struct Row {
     // The feature needed, and the one at 256 bits.
     pub needs: u8,
     pub needs256: u8,
-    // How it chooses: the kind of move, the digits' bits or the control's first bit, the group's width, and the control.
+    // How it chooses: the kind of move, the digits' bits, the control's first bit or the half, the group's width, and the control.
     pub kind: u8,
     pub bits: u8,
     pub group: u8,
@@ -67,6 +68,16 @@ const VUNPCKLPS: u8 = Mnemonic::VUNPCKLPS;
 const VPSHUFD: u8 = Mnemonic::VPSHUFD;
 
 const VPERM2F128: u8 = Mnemonic::VPERM2F128;
+
+const VPERMILPS: u8 = Mnemonic::VPERMILPS;
+
+const VUNPCKHPS: u8 = Mnemonic::VUNPCKHPS;
+
+const VUNPCKLPD: u8 = Mnemonic::VUNPCKLPD;
+
+const VUNPCKHPD: u8 = Mnemonic::VUNPCKHPD;
+
+const VPSHUFB: u8 = Mnemonic::VPSHUFB;
 
 const VEX: u8 = Encoding::VEX;
 
@@ -106,6 +117,8 @@ const AVX2: u8 = Features::AVX + 8 * Features::AVX2;
 const F: u8 = Features::AVX512F + 8 * Features::AVX512F;
 
 const VBMI: u8 = Features::AVX512_VBMI + 8 * Features::AVX512_VBMI;
+
+const BW: u8 = Features::AVX512BW + 8 * Features::AVX512BW;
 // The kind of move, and 8 times its group's width.
 const DIGIT: u8 = Move::BY_DIGIT + 8 * Width::L128;
 
@@ -113,22 +126,66 @@ const LANE: u8 = Move::IN_LANE;
 
 const ANY: u8 = Move::ANYWHERE;
 
-const LOW: u8 = Move::LOW_HALVES;
+const HALF: u8 = Move::HALVES;
 
 const ZERO: u8 = Move::LANE_OR_ZERO;
 
+const LZERO: u8 = Move::IN_LANE_OR_ZERO;
+
+const LOW: u8 = Half::LOW;
+
+const HIGH: u8 = Half::HIGH;
+
 // Mnemonic, encoding, pp, map, opcode, W, least width, operands, element bytes, features, move, its bits.
-const ROWS: [[u8; 12]; 10] = [
+const ROWS: [[u8; 12]; 22] = [
     [VPERMILPD, VEX, 1, 3, 0x05, W0, XMM, RMI, 8, AVX, DIGIT, 1],
     [VPERMILPD, EVEX, 1, 3, 0x05, W1, XMM, RMI, B8, F, DIGIT, 1],
     [VPERMILPD, VEX, 1, 2, 0x0D, W0, XMM, RVC, 8, AVX, LANE, 1],
     [VPERMILPD, EVEX, 1, 2, 0x0D, W1, XMM, RVC, B8, F, LANE, 1],
     [VPERMB, EVEX, 1, 2, 0x8D, W0, XMM, RCM, 1, VBMI, ANY, 0],
-    [VUNPCKLPS, VEX, 0, 1, 0x14, WIG, XMM, RVM, 4, AVX, LOW, 0],
-    [VUNPCKLPS, EVEX, 0, 1, 0x14, W0, XMM, RVM, B4, F, LOW, 0],
+    [VUNPCKLPS, VEX, 0, 1, 0x14, WIG, XMM, RVM, 4, AVX, HALF, LOW],
+    [VUNPCKLPS, EVEX, 0, 1, 0x14, W0, XMM, RVM, B4, F, HALF, LOW],
     [VPSHUFD, VEX, 1, 1, 0x70, WIG, XMM, RMI, 4, AVX2, DIGIT, 2],
     [VPSHUFD, EVEX, 1, 1, 0x70, W0, XMM, RMI, B4, F, DIGIT, 2],
     [VPERM2F128, VEX, 1, 3, 0x06, W0, YMM, RVMI, 16, AVX, ZERO, 0],
+    [VPERMILPS, VEX, 1, 3, 0x04, W0, XMM, RMI, 4, AVX, DIGIT, 2],
+    [VPERMILPS, EVEX, 1, 3, 0x04, W0, XMM, RMI, B4, F, DIGIT, 2],
+    [VPERMILPS, VEX, 1, 2, 0x0C, W0, XMM, RVC, 4, AVX, LANE, 0],
+    [VPERMILPS, EVEX, 1, 2, 0x0C, W0, XMM, RVC, B4, F, LANE, 0],
+    [
+        VUNPCKHPS,
+        VEX,
+        0,
+        1,
+        0x15,
+        WIG,
+        XMM,
+        RVM,
+        4,
+        AVX,
+        HALF,
+        HIGH,
+    ],
+    [VUNPCKHPS, EVEX, 0, 1, 0x15, W0, XMM, RVM, B4, F, HALF, HIGH],
+    [VUNPCKLPD, VEX, 1, 1, 0x14, WIG, XMM, RVM, 8, AVX, HALF, LOW],
+    [VUNPCKLPD, EVEX, 1, 1, 0x14, W1, XMM, RVM, B8, F, HALF, LOW],
+    [
+        VUNPCKHPD,
+        VEX,
+        1,
+        1,
+        0x15,
+        WIG,
+        XMM,
+        RVM,
+        8,
+        AVX,
+        HALF,
+        HIGH,
+    ],
+    [VUNPCKHPD, EVEX, 1, 1, 0x15, W1, XMM, RVM, B8, F, HALF, HIGH],
+    [VPSHUFB, VEX, 1, 2, 0x00, WIG, XMM, RVC, 1, AVX2, LZERO, 0],
+    [VPSHUFB, EVEX, 1, 2, 0x00, WIG, XMM, RVC, 1, BW, LZERO, 0],
 ];
 
 fn row_at(i: usize) -> Row

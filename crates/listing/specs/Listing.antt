@@ -31,6 +31,11 @@ names =
     ∷ ascii "VUNPCKLPS"
     ∷ ascii "VPSHUFD"
     ∷ ascii "VPERM2F128"
+    ∷ ascii "VPERMILPS"
+    ∷ ascii "VUNPCKHPS"
+    ∷ ascii "VUNPCKLPD"
+    ∷ ascii "VUNPCKHPD"
+    ∷ ascii "VPSHUFB"
     ∷ []
 
 abbrev pub nameText : Mnemonic → List ℕ

@@ -71,16 +71,21 @@ fn put_field(text: &mut [u8], at: usize, number: usize) -> usize
 }
 
 // The names in the order of their numbers, a tab behind each. The first is for no instruction.
-const NAMES: [[u8; 11]; 6] = [
+const NAMES: [[u8; 11]; 11] = [
     *b"-\t         ",
     *b"VPERMILPD\t ",
     *b"VPERMB\t    ",
     *b"VUNPCKLPS\t ",
     *b"VPSHUFD\t   ",
     *b"VPERM2F128\t",
+    *b"VPERMILPS\t ",
+    *b"VUNPCKHPS\t ",
+    *b"VUNPCKLPD\t ",
+    *b"VUNPCKHPD\t ",
+    *b"VPSHUFB\t   ",
 ];
 // Bytes of each, with the tab.
-const SIZES: [u8; 6] = [2, 10, 7, 10, 8, 11];
+const SIZES: [u8; 11] = [2, 10, 7, 10, 8, 11, 10, 10, 10, 10, 8];
 
 // Which of them a mnemonic has: one that is none of ours has the first.
 fn name_index(name: Mnemonic) -> usize

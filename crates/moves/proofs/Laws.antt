@@ -20,12 +20,12 @@ use Rattle.isa.specs.Operands.{widthBytes, elementBytes}
 use Rattle.isa.specs.declared.kinds.Reg.{Reg}
 use Rattle.isa.specs.declared.operands.Control.{Control}
 use Rattle.isa.specs.declared.operands.Move.{Move}
-use Rattle.isa.specs.declared.operands.Move.the-variants.{ByDigit, InLane, Anywhere, LowHalves, LaneOrZero}
+use Rattle.isa.specs.declared.operands.Move.the-variants.{ByDigit, InLane, Anywhere, Halves, LaneOrZero, InLaneOrZero}
 use Rattle.isa.proofs.Sizes.{element-divides, width-lanes, starts-above, starts-below}
 use Rattle.decode.specs.declared.instruction.First as FirstSource
 use Rattle.decode.specs.declared.instruction.Third as ThirdOperand
 use Rattle.decode.specs.declared.instruction.Instruction.{Instruction}
-use Rattle.moves.specs.Pick.{perLane, digit, lowHalves, laneOrZero, pickOf}
+use Rattle.moves.specs.Pick.{perLane, digit, halves, laneOrZero, inLaneOrZero, pickOf}
 use Rattle.moves.specs.Origin.{bitsOf, written, originOf, originBy}
 use Rattle.moves.specs.Moved.{held, registerAt, firstRegister, thirdPart, repeated, immediateByte, controlBy, controlAt, entryOf, placed, moved}
 use Rattle.moves.specs.Mappable.{inInstruction, inRegister, mappable}
@@ -165,13 +165,14 @@ FromSources (Destination p) = ⊥
 FromSources Zero = Unit
 
 pick-from-sources : (m : Move) (n v c j : ℕ) → FromSources (pickOf m n v c j)
-unfolding pickOf lowHalves laneOrZero
+unfolding pickOf halves laneOrZero inLaneOrZero
 pick-from-sources (ByDigit digits group) n v c j = tt
 pick-from-sources (InLane bit) n v c j = tt
 pick-from-sources Anywhere n v c j = tt
-pick-from-sources LowHalves n v c j = of-either FromSources (eqb (j % perLane n % 2) 0) _ _ tt tt
+pick-from-sources (Halves half) n v c j = of-either FromSources (eqb (j % perLane n % 2) 0) _ _ tt tt
 pick-from-sources LaneOrZero n v c j =
     of-either FromSources (eqb (digit 4 c j / 8 % 2) 1) _ _ tt (of-either FromSources (eqb (digit 4 c j / 2 % 2) 0) _ _ tt tt)
+pick-from-sources InLaneOrZero n v c j = of-either FromSources (eqb (c / 128 % 2) 1) _ _ tt tt
 
 -- mask 0 lets every element through
 all-written : (j : ℕ) → j < 64 → written (2 ^ 64 - 1) j ≡ true

@@ -16,11 +16,13 @@ use Rattle.isa.specs.declared.operands.Digits.{Digits}
 use Rattle.isa.specs.declared.operands.Digits.the-variants.{One, Two, Four}
 use Rattle.isa.specs.declared.operands.Width.{Width}
 use Rattle.isa.specs.declared.operands.Element.{Element}
+use Rattle.isa.specs.declared.operands.Half.{Half}
+use Rattle.isa.specs.declared.operands.Half.the-variants.{High}
 use Rattle.isa.specs.declared.operands.Move.{Move}
-use Rattle.isa.specs.declared.operands.Move.the-variants.{ByDigit, InLane, Anywhere, LowHalves, LaneOrZero}
+use Rattle.isa.specs.declared.operands.Move.the-variants.{ByDigit, InLane, Anywhere, Halves, LaneOrZero, InLaneOrZero}
 use Rattle.isa.proofs.Sizes.{element-divides, most-bytes}
 use Rattle.decode.specs.declared.instruction.First as FirstSource
-use Rattle.moves.specs.Pick.{perLane, groupStart, picks, digit, lowHalves, laneOrZero, pickOf}
+use Rattle.moves.specs.Pick.{perLane, groupStart, picks, digit, inLane, halfStart, halves, laneOrZero, inLaneOrZero, pickOf}
 use Rattle.moves.specs.Origin.{bitsOf, written, originBy, maskedOff}
 use Rattle.moves.specs.Moved.{firstRegister}
 use Rattle.moves.specs.declared.Origin.{Origin}
@@ -55,6 +57,9 @@ no-bits-left c bit h g = sym (div-eq-of-lt (lt-of-lt-of-le h (pow-mono g)))
 
 -- ---- picks
 
+pub high-half : (half : Half) (e : ℕ) → half ≡ High → e / 2 ≡ halfStart half e
+high-half half e q = rw q
+
 module _ (e g j : ℕ) (p : g ≡ e) (s : ℕ) (q : s ≡ groupStart g j) where
   pub in-group : (d f : ℕ) → d ≡ f → s + d ≡ groupStart e j + f
   in-group d f h = rw (q, p, h)
@@ -62,14 +67,14 @@ module _ (e g j : ℕ) (p : g ≡ e) (s : ℕ) (q : s ≡ groupStart g j) where
   pub in-group-by : (c d r : ℕ) → d ≡ c → r ≡ d % g → s + r ≡ groupStart e j + c % e
   in-group-by c d r h t = rw (q, t, p, h)
 
-  module _ (k : ℕ) (t : k ≡ j % g) where
-    pub first-half : k % 2 ≡ 0 → First (s + k / 2) ≡ lowHalves e j
-    unfolding lowHalves
-    first-half h = rw (q, ← p, ← t, eq-eqb (k % 2) 0 h)
+  module _ (half : Half) (k : ℕ) (t : k ≡ j % g) (b : ℕ) (a : b ≡ halfStart half g) where
+    pub first-half : k % 2 ≡ 0 → First (s + (b + k / 2)) ≡ halves half e j
+    unfolding halves
+    first-half h = rw (q, a, ← p, ← t, eq-eqb (k % 2) 0 h)
 
-    pub third-half : (k % 2 ≡ 0 → ⊥) → Third (s + k / 2) ≡ lowHalves e j
-    unfolding lowHalves
-    third-half h = rw (q, ← p, ← t, ne-eqb (k % 2) 0 h)
+    pub third-half : (k % 2 ≡ 0 → ⊥) → Third (s + (b + k / 2)) ≡ halves half e j
+    unfolding halves
+    third-half h = rw (q, a, ← p, ← t, ne-eqb (k % 2) 0 h)
 
 pub any-element : (e g c r : ℕ) → g ≡ e → r ≡ c % g → r ≡ c % e
 any-element e g c r p q = q ∙ rw p
@@ -79,7 +84,7 @@ module _ (moves : Move) (n v c j : ℕ) where
   unfolding pickOf
   picks-digit d g q r h = rw (q, h)
 
-  pub picks-in-lane : (bit : ℕ) → moves ≡ InLane bit → (r : ℕ) → r ≡ groupStart (perLane n) j + c / 2 ^ bit % perLane n → First r ≡ pickOf moves n v c j
+  pub picks-in-lane : (bit : ℕ) → moves ≡ InLane bit → (r : ℕ) → r ≡ inLane bit n c j → First r ≡ pickOf moves n v c j
   unfolding pickOf
   picks-in-lane bit q r h = rw (q, h)
 
@@ -87,13 +92,17 @@ module _ (moves : Move) (n v c j : ℕ) where
   unfolding pickOf
   picks-anywhere q r h = rw (q, h)
 
-  pub picks-halves : moves ≡ LowHalves → (o : Origin) → o ≡ lowHalves (perLane n) j → o ≡ pickOf moves n v c j
+  pub picks-halves : (half : Half) → moves ≡ Halves half → (o : Origin) → o ≡ halves half (perLane n) j → o ≡ pickOf moves n v c j
   unfolding pickOf
-  picks-halves q o h = h ∙ rw q
+  picks-halves half q o h = h ∙ rw q
 
   pub picks-lane : moves ≡ LaneOrZero → (s : ℕ) → s ≡ digit 4 c j → (o : Origin) → o ≡ laneOrZero s → o ≡ pickOf moves n v c j
   unfolding pickOf
   picks-lane q s p o h = h ∙ rw (q, p)
+
+  pub picks-in-lane-or-zero : moves ≡ InLaneOrZero → (o : Origin) → o ≡ inLaneOrZero n c j → o ≡ pickOf moves n v c j
+  unfolding pickOf
+  picks-in-lane-or-zero q o h = h ∙ rw q
 
 -- ---- masks
 

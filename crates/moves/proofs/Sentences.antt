@@ -1,10 +1,10 @@
--- Rules 4.6 to 4.10 as the manual has them, a sentence for each instruction: its move at its own element's size. And no pick of an accepted
+-- Rules 4.6 to 4.10 and 4.17 as the manual has them, a sentence for each instruction: its move at its own element's size. And no pick of an accepted
 -- instruction leaves the elements of its sources.
 use Prim.Native.Nat.{ℕ, zero, suc, _+_, _-_, _*_, _/_, _%_, _^_, _<_, _≤_, _∣_}
 use mathlib.Core.Path.{_≡_, refl, sym, _∙_}
 use mathlib.Core.Bool.{Bool}
 use native.Mathlib.Omega.{arith}
-use native.Mathlib.Nat.{div-add-mod, mod-lt, mod-le, div-one, mul-add, mul-comm, mul-one, mul-div-cancel', div-lt-iff-lt-mul, le-div-iff-mul-le, mul-le-mul-left, dvd-of-mul-dvd-mul-left}
+use native.Mathlib.Nat.{div-add-mod, mod-lt, mod-le, mod-eq-of-lt, mul-add-mod-self-left, div-one, mul-add, mul-comm, mul-one, mul-div-cancel', div-lt-iff-lt-mul, le-div-iff-mul-le, mul-le-mul-left, dvd-of-mul-dvd-mul-left}
 use lib.Dec.{eqb, leb}
 use lib.Pow.{pow-pos}
 use borrow.Author.Tests.{eq-eqb, ne-eqb}
@@ -14,19 +14,21 @@ use Rattle.isa.specs.Operands.{widthBytes, elementBytes, digitBits}
 use Rattle.isa.specs.declared.operands.Width.{Width}
 use Rattle.isa.specs.declared.operands.Width.the-variants.{Bits128}
 use Rattle.isa.specs.declared.operands.Digits.the-variants.{One, Two}
+use Rattle.isa.specs.declared.operands.Half.{Half}
+use Rattle.isa.specs.declared.operands.Half.the-variants.{Low, High}
 use Rattle.isa.specs.declared.operands.Move.{Move}
-use Rattle.isa.specs.declared.operands.Move.the-variants.{ByDigit, InLane, Anywhere, LowHalves, LaneOrZero}
+use Rattle.isa.specs.declared.operands.Move.the-variants.{ByDigit, InLane, Anywhere, Halves, LaneOrZero, InLaneOrZero}
 use Rattle.isa.proofs.Sizes.{Lanes, element-divides, width-lanes, some-bytes, divides-width, some-elements}
 use Rattle.decode.proofs.Ranges.{Fits}
 use Rattle.decode.specs.declared.instruction.Instruction.{Instruction}
-use Rattle.moves.specs.Pick.{perLane, groupStart, digit, lowHalves, laneOrZero, pickOf}
+use Rattle.moves.specs.Pick.{perLane, groupStart, digit, inLane, halfStart, halves, laneOrZero, inLaneOrZero, pickOf}
 use Rattle.moves.specs.Origin.{written, originOf, originBy}
 use Rattle.moves.specs.declared.Origin.{Origin}
 use Rattle.moves.specs.declared.Origin.the-variants.{First, Third, Destination, Zero}
 
 -- ---- one for each instruction: element k of lane l
 
--- VPSHUFD: the doubleword that bits 2k+1:2k of the immediate name
+-- VPSHUFD, and VPERMILPS with an immediate: the doubleword that bits 2k+1:2k of the immediate name
 pub vpshufd-takes : (v c l k : ℕ) → k < 4 → pickOf (ByDigit Two Bits128) 4 v c (4 * l + k) ≡ Third (4 * l + c / 2 ^ (2 * k) % 4)
 unfolding pickOf digit
 vpshufd-takes v c l k h =
@@ -42,30 +44,71 @@ vpermilpd-takes v c l k h g =
     let d : 1 * ((2 * l + k) % 8) ≡ 2 * l + k = omega arith in
     rw (s, d)
 
+-- element k of lane l is number k in its lane, whatever the elements' size
+number-in-lane : (e l k : ℕ) → k < e → (e * l + k) % e ≡ k
+number-in-lane e l k h = mul-add-mod-self-left e l k ∙ mod-eq-of-lt h
+
+lane-start : (e l k : ℕ) → k < e → groupStart e (e * l + k) ≡ e * l
+lane-start e l k h = omega (arith, number-in-lane e l k h)
+
+-- by a control in a register: the element of the lane that its bits name
+in-lane-takes : (n v bit c l k : ℕ) → k < perLane n → pickOf (InLane bit) n v c (perLane n * l + k) ≡ First (perLane n * l + c / 2 ^ bit % perLane n)
+unfolding pickOf
+in-lane-takes n v bit c l k h = rw (lane-start (perLane n) l k h)
+
 -- VPERMILPD with a register: by bit 1 of the control
 pub vpermilpd-register-takes : (v c l k : ℕ) → k < 2 → pickOf (InLane 1) 8 v c (2 * l + k) ≡ First (2 * l + c / 2 % 2)
-unfolding pickOf
-vpermilpd-register-takes v c l k h = let s : 2 * l + k - (2 * l + k) % 2 ≡ 2 * l = omega arith in rw s
+vpermilpd-register-takes v c = in-lane-takes 8 v 1 c
+
+-- VPERMILPS with a register: by bits 1:0
+pub vpermilps-register-takes : (v c l k : ℕ) → k < 4 → pickOf (InLane 0) 4 v c (4 * l + k) ≡ First (4 * l + c % 4)
+vpermilps-register-takes v c l k h = in-lane-takes 4 v 0 c l k h ∙ rw (div-one c)
+
+-- VPSHUFB: by bits 3:0, unless bit 7 clears the byte
+pub vpshufb-takes : (v c l k : ℕ) → k < 16 → c / 128 % 2 ≡ 0 → pickOf InLaneOrZero 1 v c (16 * l + k) ≡ First (16 * l + c % 16)
+unfolding pickOf inLaneOrZero
+vpshufb-takes v c l k h b = rw (ne-eqb (c / 128 % 2) 1 (λ e. omega arith), lane-start 16 l k h, div-one c)
+
+pub vpshufb-clears : (v c j : ℕ) → c / 128 % 2 ≡ 1 → pickOf InLaneOrZero 1 v c j ≡ Zero
+unfolding pickOf inLaneOrZero
+vpshufb-clears v c j b = rw (eq-eqb (c / 128 % 2) 1 b)
 
 -- VPERMB: the byte that the control names, modulo the width
 pub vpermb-takes : (v c j : ℕ) → pickOf Anywhere 1 v c j ≡ Third (c % v)
 unfolding pickOf
 vpermb-takes v c j = rw (div-one v)
 
--- VUNPCKLPS: in each lane doubleword h of the first source, and behind it the third operand's
-pub vunpcklps-takes-first : (v c l h : ℕ) → h < 2 → pickOf LowHalves 4 v c (4 * l + 2 * h) ≡ First (4 * l + h)
-unfolding pickOf lowHalves
-vunpcklps-takes-first v c l h b =
-    let s : 4 * l + 2 * h - (4 * l + 2 * h) % 4 ≡ 4 * l = omega arith in
-    let d : (4 * l + 2 * h) % 4 / 2 ≡ h = omega arith in
-    rw (eq-eqb ((4 * l + 2 * h) % 4 % 2) 0 (omega arith), s, d)
+-- the unpacks, whatever the elements' size: in each lane elements d, d + 1 and so on of the first source, and behind each the third operand's
+abbrev pub Unpacks : Half → ℕ → ℕ → Type 0
+Unpacks half n d =
+    (v c l p : ℕ) → p < perLane n / 2
+    → (pickOf (Halves half) n v c (perLane n * l + 2 * p) ≡ First (perLane n * l + (d + p)))
+    × (pickOf (Halves half) n v c (perLane n * l + (2 * p + 1)) ≡ Third (perLane n * l + (d + p)))
 
-pub vunpcklps-takes-third : (v c l h : ℕ) → h < 2 → pickOf LowHalves 4 v c (4 * l + (2 * h + 1)) ≡ Third (4 * l + h)
-unfolding pickOf lowHalves
-vunpcklps-takes-third v c l h b =
-    let s : 4 * l + (2 * h + 1) - (4 * l + (2 * h + 1)) % 4 ≡ 4 * l = omega arith in
-    let d : (4 * l + (2 * h + 1)) % 4 / 2 ≡ h = omega arith in
-    rw (ne-eqb ((4 * l + (2 * h + 1)) % 4 % 2) 0 (λ e. omega arith), s, d)
+unpacks : (half : Half) (n : ℕ) → Unpacks half n (halfStart half (perLane n))
+unfolding pickOf halves
+unpacks half n v c l p b = (
+  rw (lane-start (perLane n) l (2 * p) (omega arith), number-in-lane (perLane n) l (2 * p) (omega arith), eq-eqb (2 * p % 2) 0 (omega arith), even),
+  rw (lane-start (perLane n) l (2 * p + 1) (omega arith), number-in-lane (perLane n) l (2 * p + 1) (omega arith), ne-eqb ((2 * p + 1) % 2) 0 (λ e. omega arith), odd),
+)
+  where
+    even : 2 * p / 2 ≡ p
+    even = omega arith
+
+    odd : (2 * p + 1) / 2 ≡ p
+    odd = omega arith
+
+pub vunpcklps-takes : Unpacks Low 4 0
+vunpcklps-takes = unpacks Low 4
+
+pub vunpckhps-takes : Unpacks High 4 2
+vunpckhps-takes = unpacks High 4
+
+pub vunpcklpd-takes : Unpacks Low 8 0
+vunpcklpd-takes = unpacks Low 8
+
+pub vunpckhpd-takes : Unpacks High 8 1
+vunpckhpd-takes = unpacks High 8
 
 -- VPERM2F128: 0 and 1 are the first source's lanes, 2 and 3 the third operand's
 abbrev pub half : ℕ → Origin
@@ -130,26 +173,37 @@ module _ (n v : ℕ) (d : n ∣ 16) (l : Lanes v) where
       dvd-of-mul-dvd-mul-left (g / n) (some-bytes n d)
       (rw (mul-div-cancel' n (divides-width n d g m), mul-div-cancel' n (divides-width n d v l)) e)
 
+  -- element p of j's lane
+  lane-within : (j p : ℕ) → j < v / n → p < perLane n → groupStart (perLane n) j + p < v / n
+  lane-within j p h b =
+      let w = width-lanes Bits128 in
+      group-within (perLane n) (v / n) j p (some-elements n d _ w) (group-divides 16 w (l .whole)) h b
+
+  in-lane-within : (bit c j : ℕ) → j < v / n → inLane bit n c j < v / n
+  in-lane-within bit c j h = lane-within j (c / 2 ^ bit % perLane n) h (mod-lt (c / 2 ^ bit) (some-elements n d _ (width-lanes Bits128)))
+
+  half-within : (half : Half) (k : ℕ) → k < perLane n → halfStart half (perLane n) + k / 2 < perLane n
+  half-within Low k h = omega arith
+  half-within High k h = omega arith
+
   pub pick-within : (m : Move) (c j : ℕ) → Fits m n v → j < v / n → Within (v / n) (pickOf m n v c j)
-  unfolding pickOf digit lowHalves laneOrZero
+  unfolding pickOf digit halves laneOrZero inLaneOrZero
   pick-within (ByDigit digits group) c j f h =
       let b = digitBits digits in
       let w = width-lanes group in
       let small : 2 ^ b ≤ widthBytes group / n = le-div-iff-mul-le (some-bytes n d) .1 (f .0) in
       group-within (widthBytes group / n) (v / n) j (c / 2 ^ (b * (j % (8 / b))) % 2 ^ b) (some-elements n d _ w) (group-divides _ w (f .1)) h
       (omega (arith, small, mod-lt (c / 2 ^ (b * (j % (8 / b)))) (pow-pos b)))
-  pick-within (InLane bit) c j f h =
-      let w = width-lanes Bits128 in
-      group-within (perLane n) (v / n) j (c / 2 ^ bit % perLane n) (some-elements n d _ w) (group-divides 16 w (l .whole)) h
-      (mod-lt (c / 2 ^ bit) (some-elements n d _ w))
+  pick-within (InLane bit) c j f h = in-lane-within bit c j h
   pick-within Anywhere c j f h = mod-lt c (some-elements n d v l)
-  pick-within LowHalves c j f h =
-      let e = mod-le j (perLane n) in
-      of-either (Within (v / n)) (eqb (j % perLane n % 2) 0) _ _ (omega arith) (omega arith)
+  pick-within (Halves half) c j f h =
+      let p = lane-within j _ h (half-within half (j % perLane n) (mod-lt j (some-elements n d _ (width-lanes Bits128)))) in
+      of-either (Within (v / n)) (eqb (j % perLane n % 2) 0) _ _ p p
   pick-within LaneOrZero c j f h =
       let two : 2 ≤ v / n = le-div-iff-mul-le (some-bytes n d) .1 f in
       let s = digit 4 c j in
       of-either (Within (v / n)) (eqb (s / 8 % 2) 1) _ _ tt (of-either (Within (v / n)) (eqb (s / 2 % 2) 0) _ _ (omega arith) (omega arith))
+  pick-within InLaneOrZero c j f h = of-either (Within (v / n)) (eqb (c / 128 % 2) 1) _ _ tt (in-lane-within 0 c j h)
 
 -- every element of an accepted instruction comes from within its sources' width (decode's `accepted-range` has `Fits`)
 pub origin-within : (x : Instruction) (bits c j : ℕ) → Fits (x .moves) (elementBytes (x .element)) (widthBytes (x .width)) → j < widthBytes (x .width) / elementBytes (x .element)

@@ -3,7 +3,7 @@ ghost use mathlib.Core.Path.{_≡_};
 ghost use Prim.Native.Nat.{_+_, _*_, _/_, _%_, _^_, _<_, _≤_};
 ghost use lib.ListN.{getD};
 ghost use Rattle.isa.specs.Operands.{widthBytes, elementBytes, digitBits};
-ghost use Rattle.moves.specs.Pick.{perLane, groupStart, digit, picks, lowHalves, laneOrZero, pickOf};
+ghost use Rattle.moves.specs.Pick.{perLane, groupStart, digit, picks, inLane, halfStart, halves, laneOrZero, inLaneOrZero, pickOf};
 ghost use Rattle.moves.specs.Moved.{firstRegister, immediateByte};
 ghost use Rattle.moves.specs.Origin.{bitsOf, written, originBy, maskedOff};
 use decode::instruction::First;
@@ -12,6 +12,7 @@ use isa::kinds::Mask;
 use isa::kinds::Reg;
 use isa::operands::Digits;
 use isa::operands::Element;
+use isa::operands::Half;
 use isa::operands::Move;
 use isa::operands::Width;
 
@@ -112,7 +113,7 @@ fn from_bit(bit: u8, c: u8) -> u8
 }
 
 fn in_lane(bit: u8, element: Element, c: u8, j: u8) -> u16
-    ensures { λ r. ⌜ r ≡ groupStart (perLane (elementBytes element)) j + c / 2 ^ bit % perLane (elementBytes element) ⌝ }
+    ensures { λ r. ⌜ r ≡ inLane bit (elementBytes element) c j ⌝ }
 {
     let e = count(Width::Bits128, element);
     group_start(e, j) as u16 + in_group(e, from_bit(bit, c)) as u16
@@ -124,12 +125,23 @@ fn anywhere(width: Width, element: Element, c: u8) -> u16
     in_group(count(width, element), c) as u16
 }
 
-fn low_halves(element: Element, j: u8) -> Origin
-    ensures { λ r. ⌜ r ≡ lowHalves (perLane (elementBytes element)) j ⌝ }
+// Where a half of a lane of e elements begins.
+fn half_start(half: Half, e: u8) -> u8
+    ensures { λ r. ⌜ r ≡ halfStart half e ⌝ }
+{
+    match half {
+        Half::Low => 0,
+        Half::High => e / 2,
+    }
+}
+
+fn halves(half: Half, element: Element, j: u8) -> Origin
+    ensures { λ r. ⌜ r ≡ halves half (perLane (elementBytes element)) j ⌝ }
 {
     let e = count(Width::Bits128, element);
     let k = in_group(e, j);
-    let from = group_start(e, j) as u16 + (k / 2) as u16;
+    let in_lane = half_start(half, e) as u16 + (k / 2) as u16;
+    let from = group_start(e, j) as u16 + in_lane;
     if k % 2 == 0 {
         return Origin::First(from);
     }
@@ -152,6 +164,17 @@ fn lane_or_zero(s: u8) -> Origin
     Origin::Third(lane)
 }
 
+// The element of the lane that the control's low bits name, unless its bit 7 clears it.
+fn in_lane_or_zero(element: Element, c: u8, j: u8) -> Origin
+    ensures { λ r. ⌜ r ≡ inLaneOrZero (elementBytes element) c j ⌝ }
+{
+    let clear = c / 128 % 2;
+    if clear == 1 {
+        return Origin::Zero;
+    }
+    Origin::First(in_lane(0, element, c, j))
+}
+
 // Element j of a full result, for a control c.
 fn pick(moves: Move, element: Element, width: Width, c: u8, j: u8) -> Origin
     ensures { λ r. ⌜ r ≡ pickOf moves (elementBytes element) (widthBytes width) c j ⌝ }
@@ -160,8 +183,9 @@ fn pick(moves: Move, element: Element, width: Width, c: u8, j: u8) -> Origin
         Move::ByDigit(digits, group) => Origin::Third(by_digit(digits, group, element, c, j)),
         Move::InLane(bit) => Origin::First(in_lane(bit, element, c, j)),
         Move::Anywhere => Origin::Third(anywhere(width, element, c)),
-        Move::LowHalves => low_halves(element, j),
+        Move::Halves(half) => halves(half, element, j),
         Move::LaneOrZero => lane_or_zero(digit_of(Digits::Four, c, j)),
+        Move::InLaneOrZero => in_lane_or_zero(element, c, j),
     }
 }
 

@@ -5,7 +5,7 @@ use mathlib.Core.Path.{_≡_, refl}
 use mathlib.Core.List.{List, [], _∷_}
 use lib.ListN.{replicate, take}
 use Rattle.isa.specs.Features.{hasFeature}
-use Rattle.isa.specs.Operands.{widthOf, elementOf, digitsOf, moveFrom, controlOf}
+use Rattle.isa.specs.Operands.{widthOf, elementOf, digitsOf, halfOf, moveFrom, controlOf}
 use Rattle.isa.specs.Table.{rows, findIn, matchesRow, matchesW}
 use Rattle.isa.specs.declared.refusal.Refusal.the-variants.{Argument, Truncated, MemoryLength, TooLong}
 use Rattle.decode.specs.Prefix.{prefixSize, prefixOf, fixedBits, headOf}
@@ -24,9 +24,9 @@ ran steps place answer = record { steps = steps; place = place; answer = answer 
 abbrev pub list : List ℕ
 list = 0xC5 ∷ 0xF9 ∷ 0x70 ∷ 0xCA ∷ 0x1B ∷ 0xC5 ∷ 0xE8 ∷ 0x14 ∷ 0xCB ∷ 0xC5 ∷ 0xF9 ∷ 0x70 ∷ 0x08 ∷ 0x1B ∷ []
 
--- the first n bytes of it under a budget, with a file and masks of the right sizes and features 31
+-- the first n bytes of it under a budget, with a file and masks of the right sizes and all features
 abbrev pub front : ℕ → ℕ → Ran
-front n budget = runOf (take n list) 2048 8 31 budget
+front n budget = runOf (take n list) 2048 8 63 budget
 
 pub steps : front 14 0 ∷ front 14 1 ∷ front 14 2 ∷ front 14 3 ∷ front 14 wholeBudget ∷ front 9 wholeBudget ∷ front 8 wholeBudget ∷ front 5 wholeBudget ∷ front 0 wholeBudget ∷ []
     ≡ ran 0 0 Answer.Done
@@ -39,11 +39,11 @@ pub steps : front 14 0 ∷ front 14 1 ∷ front 14 2 ∷ front 14 3 ∷ front 14
     ∷ ran 1 5 Answer.Done
     ∷ ran 0 0 Answer.Done
     ∷ []
-unfolding runOf steppedRun runSplit split decodeOf knownOf onHead onRow onTotal finishOf headOf prefixSize prefixOf fixedBits rows findIn matchesRow matchesW sibSize displacementSize checkOf wrongW wrongWidth wrongVvvv wrongBroadcast wrongZeroing enoughOf neededOf hasFeature instructionOf encodingOf firstOf thirdOf immediateOf widthOf elementOf digitsOf moveFrom controlOf
+unfolding runOf steppedRun runSplit split decodeOf knownOf onHead onRow onTotal finishOf headOf prefixSize prefixOf fixedBits rows findIn matchesRow matchesW sibSize displacementSize checkOf wrongW wrongWidth wrongVvvv wrongBroadcast wrongZeroing enoughOf neededOf hasFeature instructionOf encodingOf firstOf thirdOf immediateOf widthOf elementOf digitsOf halfOf moveFrom controlOf
 steps = refl
 
 -- with a budget of 0: a list of as many bytes as may be, of one more, and that with a wrong file, wrong masks or wrong features
-pub order : runOf (replicate 4096 0) 2048 8 31 0 ∷ runOf (replicate 4097 0) 2048 8 31 0 ∷ runOf (replicate 4097 0) 2047 8 31 0 ∷ runOf (replicate 4097 0) 2048 7 31 0 ∷ runOf (replicate 4097 0) 2048 8 32 0 ∷ []
+pub order : runOf (replicate 4096 0) 2048 8 63 0 ∷ runOf (replicate 4097 0) 2048 8 63 0 ∷ runOf (replicate 4097 0) 2047 8 63 0 ∷ runOf (replicate 4097 0) 2048 7 63 0 ∷ runOf (replicate 4097 0) 2048 8 64 0 ∷ []
     ≡ ran 0 0 Answer.Done ∷ ran 0 0 (Answer.Refused TooLong) ∷ replicate 3 (ran 0 0 (Answer.Refused Argument))
 unfolding runOf steppedRun runSplit split
 order = refl

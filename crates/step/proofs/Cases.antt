@@ -15,25 +15,25 @@ use Rattle.seq.proofs.Choice.{both-true}
 use Rattle.seq.proofs.Tabulate.{length-tabulate, tabulate-getD, map-tabulate}
 use Rattle.seq.proofs.Parts.{every, at-every}
 use Rattle.isa.specs.Kinds.{fileSize, maskCount, registerBytes, registers, zeroEntry}
-use Rattle.isa.specs.Features.{hasFeature}
-use Rattle.isa.specs.Operands.{widthOf, elementOf, digitsOf, moveFrom, controlOf}
+use Rattle.isa.specs.Features.{allFeatures, hasFeature}
+use Rattle.isa.specs.Operands.{widthOf, elementOf, digitsOf, halfOf, moveFrom, controlOf}
 use Rattle.isa.specs.Table.{rows, findIn, matchesRow, matchesW}
 use Rattle.decode.specs.Prefix.{prefixSize, prefixOf, fixedBits, headOf}
 use Rattle.decode.specs.Modrm.{sibSize, displacementSize}
 use Rattle.decode.specs.Reserved.{wrongW, wrongWidth, wrongVvvv, wrongBroadcast, wrongZeroing, checkOf, neededOf, enoughOf}
 use Rattle.decode.specs.Instruction.{encodingOf, firstOf, thirdOf, immediateOf, instructionOf, wantedOf}
 use Rattle.decode.specs.Decode.{finishOf, onTotal, onRow, onHead, knownOf, decodeOf}
-use Rattle.decode.specs.Cases.{Case, starredCases, furtherCases, starred-decode, further-decode}
+use Rattle.decode.specs.Cases.{Case, starredCases, furtherCases, requestedCases, under, starred-decode, starred-decode-all, further-decode, requested-decode}
 use Rattle.decode.specs.declared.instruction.Instruction.{Instruction}
 use Rattle.decode.specs.declared.instruction.Decoded.{Decoded}
-use Rattle.moves.specs.Pick.{digit, lowHalves, laneOrZero, pickOf}
+use Rattle.moves.specs.Pick.{digit, halves, laneOrZero, inLaneOrZero, pickOf}
 use Rattle.moves.specs.Origin.{bitsOf, written, originOf, originBy}
 use Rattle.moves.specs.Moved.{thirdPart, controlAt, entryOf, moved}
 use Rattle.moves.specs.Mappable.{mappable}
 use Rattle.moves.proofs.Laws.{moved-at, mappable-moves}
 use Rattle.moves.proofs.Placed.{placed-in}
 use Rattle.step.specs.Step.{movedFile, executedFile, fileAfter}
-use Rattle.step.specs.Cases.{Places, Moves, Run, runs, file, masks, Ran, AllRan}
+use Rattle.step.specs.Cases.{Places, Moves, Run, runs, requestedRuns, file, masks, Ran, AllRan}
 
 -- what an accepted step leaves in byte i of its destination
 module _ (code : List ℕ) (features : ℕ) (x : Instruction) (d : decodeOf code features ≡ Decoded.Accepted x) (k memory f : List ℕ) (pk : length k ≡ maskCount)
@@ -60,7 +60,7 @@ ranTest (Decoded.Accepted x) r =
     both (eqb (length (r .memory)) (wantedOf (x .third)))
     (both (eqb (x .destination .0) 1) (every registerBytes (λ i. eqb (byteAfter x r i) (getD (r .after) i 0))))
 
-ran-by : (r : Run) (d : Decoded) → decodeOf (r .bytes) 31 ≡ d → ranTest d r ≡ true → Ran r
+ran-by : (r : Run) (d : Decoded) → decodeOf (r .bytes) allFeatures ≡ d → ranTest d r ≡ true → Ran r
 ran-by r (Decoded.Refused why) e t = let z : _≡_ {A = ℕ} 0 1 = cc in absurd (omega arith)
 ran-by r (Decoded.Accepted x) e t =
     let a = both-true _ _ t in
@@ -68,24 +68,31 @@ ran-by r (Decoded.Accepted x) e t =
     let one : x .destination .0 ≡ 1 = eqb-true _ _ (b .0) in
     λ i h.
     let g : registerBytes * x .destination .0 + i ≡ registerBytes + i = omega arith in
-    ap (λ (p : ℕ). getD (fileAfter (r .bytes) (masks (r .mask)) 31 (r .memory) file) p 0) (sym g)
-    ∙ byte-is (r .bytes) 31 x e (masks (r .mask)) (r .memory) file refl (length-tabulate {A = ℕ} fileSize _) (eqb-true _ _ (a .0)) (omega arith) i h
+    ap (λ (p : ℕ). getD (fileAfter (r .bytes) (masks (r .mask)) allFeatures (r .memory) file) p 0) (sym g)
+    ∙ byte-is (r .bytes) allFeatures x e (masks (r .mask)) (r .memory) file refl (length-tabulate {A = ℕ} fileSize _) (eqb-true _ _ (a .0)) (omega arith) i h
     ∙ eqb-true _ _ (at-every registerBytes (λ k. eqb (byteAfter x r k) (getD (r .after) k 0)) (b .1) i h)
 
 abbrev runsTest : List Run → Bool
 runsTest [] = true
-runsTest (r ∷ rs) = both (ranTest (decodeOf (r .bytes) 31) r) (runsTest rs)
+runsTest (r ∷ rs) = both (ranTest (decodeOf (r .bytes) allFeatures) r) (runsTest rs)
 
 all-by : (rs : List Run) → runsTest rs ≡ true → AllRan rs
 all-by [] t = tt
-all-by (r ∷ rs) t = let a = both-true (ranTest (decodeOf (r .bytes) 31) r) (runsTest rs) t in (ran-by r (decodeOf (r .bytes) 31) refl (a .0), all-by rs (a .1))
+all-by (r ∷ rs) t = let a = both-true (ranTest (decodeOf (r .bytes) allFeatures) r) (runsTest rs) t in (ran-by r (decodeOf (r .bytes) allFeatures) refl (a .0), all-by rs (a .1))
 
 runs-test : runsTest runs ≡ true
-unfolding runs tabulate entryOf controlAt originBy pickOf lowHalves laneOrZero digit bitsOf written decodeOf knownOf onHead onRow onTotal finishOf headOf prefixSize prefixOf fixedBits rows findIn matchesRow matchesW sibSize displacementSize checkOf wrongW wrongWidth wrongVvvv wrongBroadcast wrongZeroing enoughOf neededOf hasFeature instructionOf encodingOf firstOf thirdOf immediateOf widthOf elementOf digitsOf moveFrom controlOf
+unfolding runs tabulate entryOf controlAt originBy pickOf halves laneOrZero inLaneOrZero digit bitsOf written decodeOf knownOf onHead onRow onTotal finishOf headOf prefixSize prefixOf fixedBits rows findIn matchesRow matchesW sibSize displacementSize checkOf wrongW wrongWidth wrongVvvv wrongBroadcast wrongZeroing enoughOf neededOf hasFeature instructionOf encodingOf firstOf thirdOf immediateOf widthOf elementOf digitsOf halfOf moveFrom controlOf
 runs-test = refl
+
+requested-runs-test : runsTest requestedRuns ≡ true
+unfolding requestedRuns tabulate entryOf controlAt originBy pickOf halves laneOrZero inLaneOrZero digit bitsOf written decodeOf knownOf onHead onRow onTotal finishOf headOf prefixSize prefixOf fixedBits rows findIn matchesRow matchesW sibSize displacementSize checkOf wrongW wrongWidth wrongVvvv wrongBroadcast wrongZeroing enoughOf neededOf hasFeature instructionOf encodingOf firstOf thirdOf immediateOf widthOf elementOf digitsOf halfOf moveFrom controlOf
+requested-runs-test = refl
 
 pub all-ran : AllRan runs
 all-ran = all-by runs runs-test
+
+pub requested-ran : AllRan requestedRuns
+requested-ran = all-by requestedRuns requested-runs-test
 
 -- ---- on every file: a step that a byte map can say moves places as it moves bytes
 
@@ -157,15 +164,29 @@ all-moved (c ∷ cs) e t = (
 )
 
 starred-test : (k : List ℕ) → test k starredCases ≡ true
-unfolding starredCases identity tabulate mappable entryOf controlAt originBy pickOf lowHalves laneOrZero digit bitsOf written
+unfolding starredCases identity tabulate mappable entryOf controlAt originBy pickOf halves laneOrZero inLaneOrZero digit bitsOf written
 starred-test k = refl
 
+starred-test-all : (k : List ℕ) → test k (under allFeatures starredCases) ≡ true
+unfolding starredCases identity tabulate mappable entryOf controlAt originBy pickOf halves laneOrZero inLaneOrZero digit bitsOf written
+starred-test-all k = refl
+
 further-test : (k : List ℕ) → test k furtherCases ≡ true
-unfolding furtherCases identity tabulate mappable entryOf controlAt originBy pickOf lowHalves laneOrZero digit bitsOf written
+unfolding furtherCases identity tabulate mappable entryOf controlAt originBy pickOf halves laneOrZero inLaneOrZero digit bitsOf written
 further-test k = refl
+
+requested-test : (k : List ℕ) → test k requestedCases ≡ true
+unfolding requestedCases identity tabulate mappable entryOf controlAt originBy pickOf halves laneOrZero inLaneOrZero digit bitsOf written
+requested-test k = refl
 
 pub starred-move : Moves starredCases
 starred-move = all-moved starredCases (starred-decode .0) starred-test
 
+pub starred-move-all : Moves (under allFeatures starredCases)
+starred-move-all = all-moved (under allFeatures starredCases) (starred-decode-all .0) starred-test-all
+
 pub further-move : Moves furtherCases
 further-move = all-moved furtherCases (further-decode .0) further-test
+
+pub requested-move : Moves requestedCases
+requested-move = all-moved requestedCases (requested-decode .0) requested-test

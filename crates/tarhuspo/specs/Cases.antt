@@ -5,7 +5,7 @@ use mathlib.Core.Path.{_≡_, refl}
 use mathlib.Core.List.{List, [], _∷_, map}
 use lib.ListN.{replicate}
 use Rattle.isa.specs.Features.{hasFeature}
-use Rattle.isa.specs.Operands.{widthOf, elementOf, digitsOf, moveFrom, controlOf}
+use Rattle.isa.specs.Operands.{widthOf, elementOf, digitsOf, halfOf, moveFrom, controlOf}
 use Rattle.isa.specs.Table.{rows, findIn, matchesRow, matchesW}
 use Rattle.isa.specs.declared.refusal.Field.the-variants.{Vvvv}
 use Rattle.isa.specs.declared.refusal.Refusal.{Refusal}
@@ -78,7 +78,7 @@ pub listings-answered : map (λ (a : Answer). listedFields (listedOf (record { w
 listings-answered = refl
 
 -- ---- decodings: VPERM2F128 ymm1, ymm2, ymm3; VPSHUFD zmm1 from zmm2 under mask 1 with zeroing; VPSHUFD with a broadcast doubleword;
--- VUNPCKLPS, which has no immediate
+-- VUNPCKLPS, which has no immediate. Of request 1 VPERMILPS, VUNPCKHPS with a broadcast doubleword, VUNPCKLPD, VUNPCKHPD, and VPSHUFB under mask 1
 
 abbrev pub codes : List (List ℕ)
 codes =
@@ -86,13 +86,23 @@ codes =
     ∷ (0x62 ∷ 0xF1 ∷ 0x7D ∷ 0xC9 ∷ 0x70 ∷ 0xCA ∷ 0x1B ∷ [])
     ∷ (0x62 ∷ 0xF1 ∷ 0x7D ∷ 0x58 ∷ 0x70 ∷ 0x08 ∷ 0x00 ∷ [])
     ∷ (0xC5 ∷ 0xE8 ∷ 0x14 ∷ 0xCB ∷ [])
+    ∷ (0xC4 ∷ 0xE3 ∷ 0x79 ∷ 0x04 ∷ 0xCA ∷ 0x1B ∷ [])
+    ∷ (0x62 ∷ 0xF1 ∷ 0x6C ∷ 0x58 ∷ 0x15 ∷ 0x08 ∷ [])
+    ∷ (0xC5 ∷ 0xE9 ∷ 0x14 ∷ 0xCB ∷ [])
+    ∷ (0xC5 ∷ 0xED ∷ 0x15 ∷ 0xCB ∷ [])
+    ∷ (0x62 ∷ 0xF2 ∷ 0x6D ∷ 0x49 ∷ 0x00 ∷ 0xCB ∷ [])
     ∷ []
 
-pub decodings-numbered : map (λ (code : List ℕ). decodedFields (decodedOf (decodeOf code 31))) codes
+pub decodings-numbered : map (λ (code : List ℕ). decodedFields (decodedOf (decodeOf code 63))) codes
     ≡ (0 ∷ 6 ∷ 0 ∷ 5 ∷ 256 ∷ 0 ∷ 1 ∷ 2 ∷ 3 ∷ 0 ∷ 0 ∷ 0 ∷ 1 ∷ 0x21 ∷ [])
     ∷ (0 ∷ 7 ∷ 0 ∷ 4 ∷ 512 ∷ 1 ∷ 1 ∷ 0 ∷ 2 ∷ 1 ∷ 1 ∷ 0 ∷ 1 ∷ 0x1B ∷ [])
     ∷ (0 ∷ 7 ∷ 4 ∷ 4 ∷ 512 ∷ 1 ∷ 1 ∷ 0 ∷ 0 ∷ 0 ∷ 0 ∷ 1 ∷ 1 ∷ 0 ∷ [])
     ∷ (0 ∷ 4 ∷ 0 ∷ 3 ∷ 128 ∷ 0 ∷ 1 ∷ 2 ∷ 3 ∷ 0 ∷ 0 ∷ 0 ∷ 0 ∷ 0 ∷ [])
+    ∷ (0 ∷ 6 ∷ 0 ∷ 6 ∷ 128 ∷ 0 ∷ 1 ∷ 0 ∷ 2 ∷ 0 ∷ 0 ∷ 0 ∷ 1 ∷ 0x1B ∷ [])
+    ∷ (0 ∷ 6 ∷ 4 ∷ 7 ∷ 512 ∷ 1 ∷ 1 ∷ 2 ∷ 0 ∷ 0 ∷ 0 ∷ 1 ∷ 0 ∷ 0 ∷ [])
+    ∷ (0 ∷ 4 ∷ 0 ∷ 8 ∷ 128 ∷ 0 ∷ 1 ∷ 2 ∷ 3 ∷ 0 ∷ 0 ∷ 0 ∷ 0 ∷ 0 ∷ [])
+    ∷ (0 ∷ 4 ∷ 0 ∷ 9 ∷ 256 ∷ 0 ∷ 1 ∷ 2 ∷ 3 ∷ 0 ∷ 0 ∷ 0 ∷ 0 ∷ 0 ∷ [])
+    ∷ (0 ∷ 6 ∷ 0 ∷ 10 ∷ 512 ∷ 1 ∷ 1 ∷ 2 ∷ 3 ∷ 1 ∷ 0 ∷ 0 ∷ 0 ∷ 0 ∷ [])
     ∷ []
-unfolding acceptedOf decodeOf knownOf onHead onRow onTotal finishOf headOf prefixSize prefixOf fixedBits rows findIn matchesRow matchesW sibSize displacementSize checkOf wrongW wrongWidth wrongVvvv wrongBroadcast wrongZeroing enoughOf neededOf hasFeature instructionOf encodingOf firstOf thirdOf immediateOf widthOf elementOf digitsOf moveFrom controlOf
+unfolding acceptedOf decodeOf knownOf onHead onRow onTotal finishOf headOf prefixSize prefixOf fixedBits rows findIn matchesRow matchesW sibSize displacementSize checkOf wrongW wrongWidth wrongVvvv wrongBroadcast wrongZeroing enoughOf neededOf hasFeature instructionOf encodingOf firstOf thirdOf immediateOf widthOf elementOf digitsOf halfOf moveFrom controlOf
 decodings-numbered = refl

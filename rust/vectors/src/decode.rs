@@ -19,7 +19,7 @@ pub const KINDS: [Kind<Decode>; 13] = [
     ("accepted", 7_000, accepted),
     ("bytes behind", 1_500, bytes_behind),
     ("any features", 2_500, any_features),
-    ("features over 31", 600, wrong_features),
+    ("features over 63", 600, wrong_features),
     ("one bit flipped", 3_000, flipped),
     ("one byte replaced", 1_000, replaced),
     ("cut", 1_000, cut),

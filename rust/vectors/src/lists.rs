@@ -40,7 +40,7 @@ pub const KINDS: [Kind<ListInput>; 16] = [
     ("control in a register", 2_000, control),
     ("one bit flipped", 1_500, flipped),
     ("any bytes", 200, any_bytes),
-    ("features over 31", 500, wrong_features),
+    ("features over 63", 500, wrong_features),
     ("sizes", 1_000, wrong_sizes),
     ("number of opmasks", 400, wrong_masks),
     ("200 to 1,000 bytes", 100, long),

@@ -3,7 +3,7 @@
 use crate::layout::{Span, CODE_ROOM, MASKS_ROOM, MOST};
 use inputs::faults::Fault;
 use inputs::form::Form;
-use inputs::limits::features::ALL;
+use inputs::limits::features::{ALL, SETS};
 use inputs::limits::{CODE_LIMIT, FILE_SIZE, MASK_COUNT};
 use inputs::random::Random;
 
@@ -70,15 +70,15 @@ impl Maker {
 
     /// Features that there are.
     pub fn features(&mut self) -> u32 {
-        self.random.below(32) as u32
+        self.random.below(SETS) as u32
     }
 
-    /// A feature number over 31.
+    /// A feature number over 63.
     pub fn wrong_features(&mut self) -> u32 {
         match self.random.below(4) {
             0 => ALL + 1 + self.random.below(8) as u32,
-            1 => 1 << (5 + self.random.below(27)),
-            2 => u32::MAX - self.random.below(32) as u32,
+            1 => 1 << (6 + self.random.below(26)),
+            2 => u32::MAX - self.random.below(SETS) as u32,
             _ => (self.random.number() as u32).max(ALL + 1),
         }
     }

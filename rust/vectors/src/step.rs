@@ -26,7 +26,7 @@ pub const KINDS: [Kind<Step>; 17] = [
     ("length of memory", 1_800, memory_length),
     ("size of the file", 600, file_size),
     ("number of opmasks", 500, mask_count),
-    ("features over 31", 500, wrong_features),
+    ("features over 63", 500, wrong_features),
     ("any features", 1_500, any_features),
     ("one bit flipped", 1_500, flipped),
     ("one byte replaced", 500, replaced),

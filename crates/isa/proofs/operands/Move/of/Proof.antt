@@ -14,5 +14,7 @@ of-spec =
     (λ c. search (needs, cases) depth 12)
     (λ c. search (needs, cases) depth 12)
     (λ c. search (needs, cases) depth 12)
+    (λ c κs. search needs)
+    (λ c. search (needs, cases) depth 12)
     (λ c. search (needs, cases) depth 12)
     (λ c. search (needs, cases) depth 12))

@@ -1,16 +1,19 @@
 use borrow.Author.Needs.{needs}
 use Rattle.moves.proofs.Rules.{first-half, third-half}
-use Rattle.moves.proofs.low_halves.Statement.{statement}
-use Rattle.moves.proofs.low_halves.Tie as tie
+use Rattle.moves.proofs.halves.Statement.{statement}
+use Rattle.moves.proofs.halves.Tie as tie
 
-pub low-halves-spec : {M : Type 1} → statement M
-low-halves-spec =
+pub halves-spec : {M : Type 1} → statement M
+halves-spec =
     tie.close
     (tie.spec
     (λ c κs. search needs)
     (λ c κs. search needs)
     (λ c κs. search needs)
     (λ c. search needs)
+    (λ c. search needs)
+    (λ c. search needs)
+    (λ c κs. search needs)
     (λ c. search needs)
     (λ c. search needs)
     (λ c. search (needs, first-half) depth 12)
