@@ -132,9 +132,10 @@ const ZERO: u8 = Move::LANE_OR_ZERO;
 
 const LZERO: u8 = Move::IN_LANE_OR_ZERO;
 
-const LOW: u8 = Half::LOW;
+// The half.
+const LO: u8 = Half::LOW;
 
-const HIGH: u8 = Half::HIGH;
+const HI: u8 = Half::HIGH;
 
 // Mnemonic, encoding, pp, map, opcode, W, least width, operands, element bytes, features, move, its bits.
 const ROWS: [[u8; 12]; 22] = [
@@ -143,8 +144,8 @@ const ROWS: [[u8; 12]; 22] = [
     [VPERMILPD, VEX, 1, 2, 0x0D, W0, XMM, RVC, 8, AVX, LANE, 1],
     [VPERMILPD, EVEX, 1, 2, 0x0D, W1, XMM, RVC, B8, F, LANE, 1],
     [VPERMB, EVEX, 1, 2, 0x8D, W0, XMM, RCM, 1, VBMI, ANY, 0],
-    [VUNPCKLPS, VEX, 0, 1, 0x14, WIG, XMM, RVM, 4, AVX, HALF, LOW],
-    [VUNPCKLPS, EVEX, 0, 1, 0x14, W0, XMM, RVM, B4, F, HALF, LOW],
+    [VUNPCKLPS, VEX, 0, 1, 0x14, WIG, XMM, RVM, 4, AVX, HALF, LO],
+    [VUNPCKLPS, EVEX, 0, 1, 0x14, W0, XMM, RVM, B4, F, HALF, LO],
     [VPSHUFD, VEX, 1, 1, 0x70, WIG, XMM, RMI, 4, AVX2, DIGIT, 2],
     [VPSHUFD, EVEX, 1, 1, 0x70, W0, XMM, RMI, B4, F, DIGIT, 2],
     [VPERM2F128, VEX, 1, 3, 0x06, W0, YMM, RVMI, 16, AVX, ZERO, 0],
@@ -152,38 +153,12 @@ const ROWS: [[u8; 12]; 22] = [
     [VPERMILPS, EVEX, 1, 3, 0x04, W0, XMM, RMI, B4, F, DIGIT, 2],
     [VPERMILPS, VEX, 1, 2, 0x0C, W0, XMM, RVC, 4, AVX, LANE, 0],
     [VPERMILPS, EVEX, 1, 2, 0x0C, W0, XMM, RVC, B4, F, LANE, 0],
-    [
-        VUNPCKHPS,
-        VEX,
-        0,
-        1,
-        0x15,
-        WIG,
-        XMM,
-        RVM,
-        4,
-        AVX,
-        HALF,
-        HIGH,
-    ],
-    [VUNPCKHPS, EVEX, 0, 1, 0x15, W0, XMM, RVM, B4, F, HALF, HIGH],
-    [VUNPCKLPD, VEX, 1, 1, 0x14, WIG, XMM, RVM, 8, AVX, HALF, LOW],
-    [VUNPCKLPD, EVEX, 1, 1, 0x14, W1, XMM, RVM, B8, F, HALF, LOW],
-    [
-        VUNPCKHPD,
-        VEX,
-        1,
-        1,
-        0x15,
-        WIG,
-        XMM,
-        RVM,
-        8,
-        AVX,
-        HALF,
-        HIGH,
-    ],
-    [VUNPCKHPD, EVEX, 1, 1, 0x15, W1, XMM, RVM, B8, F, HALF, HIGH],
+    [VUNPCKHPS, VEX, 0, 1, 0x15, WIG, XMM, RVM, 4, AVX, HALF, HI],
+    [VUNPCKHPS, EVEX, 0, 1, 0x15, W0, XMM, RVM, B4, F, HALF, HI],
+    [VUNPCKLPD, VEX, 1, 1, 0x14, WIG, XMM, RVM, 8, AVX, HALF, LO],
+    [VUNPCKLPD, EVEX, 1, 1, 0x14, W1, XMM, RVM, B8, F, HALF, LO],
+    [VUNPCKHPD, VEX, 1, 1, 0x15, WIG, XMM, RVM, 8, AVX, HALF, HI],
+    [VUNPCKHPD, EVEX, 1, 1, 0x15, W1, XMM, RVM, B8, F, HALF, HI],
     [VPSHUFB, VEX, 1, 2, 0x00, WIG, XMM, RVC, 1, AVX2, LZERO, 0],
     [VPSHUFB, EVEX, 1, 2, 0x00, WIG, XMM, RVC, 1, BW, LZERO, 0],
 ];

@@ -168,8 +168,8 @@ fn lane_or_zero(s: u8) -> Origin
 fn in_lane_or_zero(element: Element, c: u8, j: u8) -> Origin
     ensures { λ r. ⌜ r ≡ inLaneOrZero (elementBytes element) c j ⌝ }
 {
-    let clear = c / 128 % 2;
-    if clear == 1 {
+    let bit_7 = c / 128 % 2;
+    if bit_7 == 1 {
         return Origin::Zero;
     }
     Origin::First(in_lane(0, element, c, j))
