@@ -32,7 +32,7 @@ extern "C" {
  * size or limit, an answer that changes for some input. MINOR moves when something is only added: a
  * function, a constant, an instruction that status 3 refused before.
  */
-#define TARHUSPO_VERSION_MAJOR 1
+#define TARHUSPO_VERSION_MAJOR 2
 #define TARHUSPO_VERSION_MINOR 0
 
 /* Processor features: add those that the processor has. */
@@ -41,6 +41,7 @@ extern "C" {
 #define TARHUSPO_AVX512F UINT32_C(4)
 #define TARHUSPO_AVX512VL UINT32_C(8)
 #define TARHUSPO_AVX512_VBMI UINT32_C(16)
+#define TARHUSPO_AVX512BW UINT32_C(32)
 
 /* Sizes: bytes of the register file, the number of opmasks, and entries of a byte map. */
 #define TARHUSPO_FILE_SIZE 2048
@@ -60,7 +61,7 @@ extern "C" {
  * status is 0 if the instruction is accepted. Otherwise it says what is wrong, and every other
  * field is 0. The first of these that applies is given:
  *
- *  1  features is over 31.
+ *  1  features is over 63.
  *  2  There is no byte.
  *  3  The first byte is not C4, C5 or 62 (hexadecimal, as below).
  *  2  The bytes end before the opcode does.
@@ -69,15 +70,16 @@ extern "C" {
  *  2  The bytes end before the instruction does.
  *  4  A reserved field is wrong (the processor raises #UD): VEX W is 1 where it must be 0,
  *     VPERM2F128 has 128 bits, the EVEX width is 3, vvvv or V' is not all ones in a form without
- *     a first source, the broadcast bit is set with a register as third operand or on VPERMB, or
- *     zeroing is set without an opmask.
+ *     a first source, the broadcast bit is set with a register as third operand or on VPERMB or
+ *     VPSHUFB, or zeroing is set without an opmask.
  *  5  The instruction needs a feature that features does not have (#UD).
  */
 typedef struct {
     uint32_t status;        /* 0 accepted, or 1 to 5 as above */
     uint32_t length;        /* bytes of the instruction; those behind are ignored */
     uint32_t memory;        /* bytes that the memory operand has, 0 for a register form */
-    uint32_t mnemonic;      /* 1 VPERMILPD, 2 VPERMB, 3 VUNPCKLPS, 4 VPSHUFD, 5 VPERM2F128 */
+    uint32_t mnemonic;      /* 1 VPERMILPD, 2 VPERMB, 3 VUNPCKLPS, 4 VPSHUFD, 5 VPERM2F128,
+                               6 VPERMILPS, 7 VUNPCKHPS, 8 VUNPCKLPD, 9 VUNPCKHPD, 10 VPSHUFB */
     uint32_t bits;          /* vector width: 128, 256 or 512 */
     uint32_t evex;          /* 1 for an EVEX encoding, 0 for VEX */
     uint32_t destination;   /* destination register, 0 to 31 */
@@ -102,7 +104,7 @@ tarhuspo_decoded tarhuspo_decode(const uint8_t *code, size_t code_len, uint32_t 
  * status is 0 if the instruction was carried out. Otherwise it says what is wrong, and length is 0.
  * The first of these that applies is given:
  *
- *  1  file_len is not 2048, masks_len is not 8, or features is over 31.
+ *  1  file_len is not 2048, masks_len is not 8, or features is over 63.
  *  2 to 5  The instruction is not accepted: as tarhuspo_decode, in its order.
  *  6  memory_len is not exactly what tarhuspo_decode gives as memory: 0 for a register form, the
  *     vector width for a memory form, one element for a broadcast. An opmask changes nothing in
@@ -136,7 +138,7 @@ tarhuspo_stepped tarhuspo_step(const uint8_t *code, size_t code_len, uint8_t *fi
  * status is 0 if the end of the code was reached or the budget was spent. Otherwise it is the first
  * of these that applies:
  *
- *  1  file_len is not 2048, masks_len is not 8, or features is over 31.
+ *  1  file_len is not 2048, masks_len is not 8, or features is over 63.
  *  8  code_len is over 4096.
  *  2 to 6  The instruction at place is refused: as tarhuspo_step without memory, so that every
  *     memory form that is not refused with 2 to 5 is refused with 6.
@@ -166,11 +168,11 @@ tarhuspo_ran tarhuspo_run(const uint8_t *code, size_t code_len, uint8_t *file, s
  *
  * status is 0 if the map was written. Otherwise it is the first of these that applies:
  *
- *  1  map_len is not 2048, masks_len is not 8, or features is over 31.
+ *  1  map_len is not 2048, masks_len is not 8, or features is over 63.
  *  8  code_len is over 4096.
  *  2 to 5, 7  The instruction at place is refused: 2 to 5 as tarhuspo_decode, then 7 for a memory
- *     form, and for one whose control is in a register (VPERMB, and VPERMILPD without an
- *     immediate).
+ *     form, and for one whose control is in a register (VPERMB, VPSHUFB, and VPERMILPD or VPERMILPS
+ *     without an immediate).
  */
 typedef struct {
     uint64_t place;  /* code_len if status is 0, else where the refused instruction starts, or 0

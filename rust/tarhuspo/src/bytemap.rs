@@ -22,9 +22,9 @@ const _: () = assert!(size_of::<Built>() == 16 && align_of::<Built>() == 8);
 /// Writes the byte map of a list of instructions into `map`, whatever that held before.
 ///
 /// Applying the map does to every register file what running `code` with the same `masks` and
-/// `features` does. `code` has at most 4,096 bytes. Instructions with a memory operand, VPERMB, and
-/// VPERMILPD with its control in a register are refused with status 7: what they move depends on
-/// more than code and opmasks. A refusal changes no entry.
+/// `features` does. `code` has at most 4,096 bytes. Instructions with a memory operand, VPERMB,
+/// VPSHUFB, and VPERMILPD or VPERMILPS with its control in a register are refused with status 7:
+/// what they move depends on more than code and opmasks. A refusal changes no entry.
 ///
 /// ```
 /// use tarhuspo::limits::{FILE_SIZE, MAP_SIZE, MASK_COUNT};

@@ -5,7 +5,10 @@ use crate::{ffi, mnemonic};
 /// What decoding found. Every field but `status` is 0 when `status` is not 0.
 ///
 /// ```
-/// let decoded = tarhuspo::decode(&[0x62, 0xF1, 0x7D, 0xC9, 0x70, 0xCA, 0x1B], 31);
+/// use tarhuspo::{decode, features};
+///
+/// // vpshufd zmm1{k1}{z}, zmm2, 0x1b
+/// let decoded = decode(&[0x62, 0xF1, 0x7D, 0xC9, 0x70, 0xCA, 0x1B], features::ALL);
 /// assert_eq!((decoded.destination, decoded.third), (1, 2));
 /// assert_eq!((decoded.mask, decoded.zeroing), (1, 1));
 /// ```
@@ -50,10 +53,13 @@ impl Decoded {
     /// operand alone, except for VPERM2F128, which picks from two.
     ///
     /// ```
-    /// let vpshufd = tarhuspo::decode(&[0xC5, 0xF9, 0x70, 0xCA, 0x1B], 31);
-    /// assert!(!vpshufd.has_first());
-    /// let vunpcklps = tarhuspo::decode(&[0xC5, 0xE8, 0x14, 0xCB], 31);
-    /// assert!(vunpcklps.has_first());
+    /// use tarhuspo::{decode, features};
+    ///
+    /// // vpermilps xmm1, xmm2, 0x1b, and vpermilps xmm1, xmm2, xmm3
+    /// let immediate = decode(&[0xC4, 0xE3, 0x79, 0x04, 0xCA, 0x1B], features::ALL);
+    /// let register = decode(&[0xC4, 0xE2, 0x69, 0x0C, 0xCB], features::ALL);
+    /// assert_eq!(immediate.mnemonic, register.mnemonic);
+    /// assert!(!immediate.has_first() && register.has_first());
     /// ```
     pub fn has_first(&self) -> bool {
         let accepted = self.status == 0;
@@ -67,10 +73,12 @@ impl Decoded {
 /// the constants in [`features`](crate::features).
 ///
 /// ```
-/// let accepted = tarhuspo::decode(&[0xC5, 0xE8, 0x14, 0xCB, 0x90], 31);
+/// use tarhuspo::{decode, features};
+///
+/// let accepted = decode(&[0xC5, 0xE8, 0x14, 0xCB, 0x90], features::ALL);
 /// assert_eq!((accepted.status, accepted.length), (0, 4));
 ///
-/// let refused = tarhuspo::decode(&[], 31);
+/// let refused = decode(&[], features::ALL);
 /// assert_eq!((refused.status, refused.length), (2, 0));
 /// ```
 pub fn decode(code: &[u8], features: u32) -> Decoded {
