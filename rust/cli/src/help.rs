@@ -98,6 +98,9 @@ usage: tarhuspo COMMAND ..
   help       this text; tarhuspo help COMMAND or COMMAND --help says more
   --version  the version of the library, as in its C header
 
+instructions, VEX and EVEX: VPERMILPD, VPERMILPS, VPSHUFD, VUNPCKLPS, VUNPCKHPS,
+VUNPCKLPD, VUNPCKHPD, VPSHUFB; VEX alone: VPERM2F128; EVEX alone: VPERMB
+
 example: tarhuspo decode 62 F1 7D C9 70 CA 1B
 
 exit status: 0 done, 1 refused or different, 2 bad usage or a file that cannot be used
@@ -111,8 +114,8 @@ const MASKS: &str = "  \
 
 const FEATURES: &str = "  \
   --features LIST  what the processor has: names between commas out of avx,
-                   avx2, avx512f, avx512vl, avx512_vbmi, or their number; all if
-                   not given
+                   avx2, avx512f, avx512vl, avx512_vbmi, avx512bw, or their
+                   number; all, which is 63, if not given
 ";
 
 const CODE: &str = "

@@ -22,6 +22,22 @@ fn different_lists_may_do_the_same() {
     assert_eq!(printed(&["compare", "hex:", "hex:"]), expected);
 }
 
+/// The same moves under other names.
+#[test]
+fn different_instructions_may_do_the_same() {
+    for (one, other) in [
+        // vpermilps xmm1, xmm2, 0x1b and vpshufd xmm1, xmm2, 0x1b
+        ("hex:C4E37904CA1B", SHUFFLE),
+        // vunpckhpd ymm1, ymm2, ymm2 and vpermilpd ymm1, ymm2, 0x0f
+        ("hex:C5ED15CA", "hex:C4E37D05CA0F"),
+        // vunpcklpd xmm1, xmm2, xmm2 with W 0 and 1
+        ("hex:C5E914CA", "hex:C4E1E914CA"),
+    ] {
+        let expected = format!("list 1 ('{one}') and list 2 ('{other}'): same\n");
+        assert_eq!(printed(&["compare", one, other]), expected);
+    }
+}
+
 fn assert_differ(arguments: &[&str], difference: &str) {
     let (status, out, err) = run(arguments);
     assert_eq!((status, err.as_str()), (Some(1), ""), "{arguments:?}");

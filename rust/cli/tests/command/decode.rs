@@ -58,6 +58,27 @@ immediate:     none
     assert_eq!(ran, (Some(0), expected.to_string(), String::new()));
 }
 
+/// A byte has no broadcast, and a mask bit for each byte.
+#[test]
+fn accepted_byte_form() {
+    let expected = "\
+vpshufb xmm25{k5}, xmm2, xmmword ptr [mem]
+length:        7 bytes
+memory:        16 bytes
+encoding:      EVEX
+vector width:  128 bits
+destination:   xmm25
+first source:  xmm2
+third operand: memory
+opmask:        k5
+masked off:    elements are merged
+broadcast:     none
+immediate:     none
+";
+    let ran = run(&["decode", "62 62 ED 0D 00 48 10"]);
+    assert_eq!(ran, (Some(0), expected.to_string(), String::new()));
+}
+
 #[test]
 fn each_instruction_is_written_as_an_assembler_would() {
     for (bytes, expected) in [
@@ -81,6 +102,33 @@ fn each_instruction_is_written_as_an_assembler_would() {
             "C4 E3 6D 06 08 31",
             "vperm2f128 ymm1, ymm2, ymmword ptr [mem], 0x31",
         ),
+        ("C4 E3 79 04 CA 1B", "vpermilps xmm1, xmm2, 0x1b"),
+        (
+            "62 F3 7D 58 04 08 1B",
+            "vpermilps zmm1, dword ptr [mem]{1to16}, 0x1b",
+        ),
+        ("C4 E2 6D 0C CB", "vpermilps ymm1, ymm2, ymm3"),
+        (
+            "62 F2 6D 18 0C 08",
+            "vpermilps xmm1, xmm2, dword ptr [mem]{1to4}",
+        ),
+        ("C5 E8 15 CB", "vunpckhps xmm1, xmm2, xmm3"),
+        (
+            "62 F1 6C 38 15 08",
+            "vunpckhps ymm1, ymm2, dword ptr [mem]{1to8}",
+        ),
+        ("C5 E9 14 CB", "vunpcklpd xmm1, xmm2, xmm3"),
+        ("C4 E1 E9 14 CB", "vunpcklpd xmm1, xmm2, xmm3"),
+        ("62 F1 ED 48 14 CB", "vunpcklpd zmm1, zmm2, zmm3"),
+        ("C5 ED 15 08", "vunpckhpd ymm1, ymm2, ymmword ptr [mem]"),
+        (
+            "62 F1 ED 18 15 08",
+            "vunpckhpd xmm1, xmm2, qword ptr [mem]{1to2}",
+        ),
+        ("C4 E2 69 00 CB", "vpshufb xmm1, xmm2, xmm3"),
+        ("62 F2 6D 48 00 CB", "vpshufb zmm1, zmm2, zmm3"),
+        ("62 F2 ED 48 00 CB", "vpshufb zmm1, zmm2, zmm3"),
+        ("62 F2 6D 48 00 08", "vpshufb zmm1, zmm2, zmmword ptr [mem]"),
     ] {
         assert_eq!(instruction(bytes), expected, "{bytes}");
     }
@@ -96,15 +144,15 @@ fn bytes_may_be_written_in_several_ways() {
         &["decode", "0xC5F970CA1B"],
         &["decode", "hex:C5F970CA1B"],
         &["decode", "0XC5 0xF9 70", "", "0xCA1b"],
-        &["decode", "--features", "31", "C5F970CA1B"],
+        &["decode", "--features", "63", "C5F970CA1B"],
         &["decode", "C5F9", "--features=avx", "70CA1B"],
         &["decode", "C5F970CA1B", "--features", "AVX,avx2"],
-        &["decode", "C5F970CA1B", "--features", "0x1F"],
+        &["decode", "C5F970CA1B", "--features", "0x3F"],
         &[
             "decode",
             "C5F970CA1B90",
             "--features",
-            "avx,avx2,avx512f,avx512vl,avx512_vbmi",
+            "avx,avx2,avx512f,avx512vl,avx512_vbmi,avx512bw",
         ],
     ] {
         assert_eq!(run(arguments), expected, "{arguments:?}");
@@ -113,7 +161,7 @@ fn bytes_may_be_written_in_several_ways() {
 
 #[test]
 fn refusals_have_number_and_sentence() {
-    assert_refused(&["decode", "C5 F9 70 CA 1B", "--features", "32"], 1);
+    assert_refused(&["decode", "C5 F9 70 CA 1B", "--features", "64"], 1);
     assert_refused(&["decode", "C5 F9 70 CA 1B", "--features", "4294967295"], 1);
     assert_refused(&["decode", "C5 F9 70 CA"], 2);
     assert_refused(&["decode", ""], 2);
@@ -123,11 +171,39 @@ fn refusals_have_number_and_sentence() {
     assert_refused(&["decode", "C5 F9 70 CA 1B", "--features", "0"], 5);
 }
 
+/// vpshufb zmm1, zmm2, zmm3 needs AVX512BW and no other feature.
+#[test]
+fn features_of_a_byte_form() {
+    const CODE: &str = "62 F2 6D 48 00 CB";
+    let accepted = run(&["decode", CODE]);
+    assert_eq!(accepted.0, Some(0));
+    for features in ["63", "32", "avx512bw", "avx,AVX512BW"] {
+        let ran = run(&["decode", CODE, "--features", features]);
+        assert_eq!(ran, accepted, "{features}");
+    }
+    for features in ["31", "0", "avx512f,avx512_vbmi"] {
+        assert_refused(&["decode", CODE, "--features", features], 5);
+    }
+}
+
+#[test]
+fn refusals_of_the_lane_permutes() {
+    // VPSHUFB with b 1, and VUNPCKLPD under EVEX with W 0.
+    assert_refused(&["decode", "62 F2 6D 58 00 08"], 4);
+    assert_refused(&["decode", "62 F1 6D 48 14 CB"], 3);
+    // VPERMILPS with an immediate: vvvv, then VEX W.
+    assert_refused(&["decode", "C4 E3 69 04 CA 1B"], 4);
+    assert_refused(&["decode", "C4 E3 F9 04 CA 1B"], 4);
+    // vpshufb ymm1, ymm2, ymm3 needs AVX2 and not AVX.
+    assert_refused(&["decode", "C4 E2 6D 00 CB", "--features", "61"], 5);
+    assert!(printed(&["decode", "C4 E2 6D 00 CB", "--features", "avx2"]).starts_with("vpshufb "));
+}
+
 #[test]
 fn bad_usage_is_one_line() {
     let bytes = "expected hex bytes after 'decode', as in: decode C5 F9 70 CA 1B";
     assert_bad_usage(&["decode"], bytes);
-    assert_bad_usage(&["decode", "--features", "31"], bytes);
+    assert_bad_usage(&["decode", "--features", "63"], bytes);
     assert_bad_usage(
         &["decode", "C5F"],
         "expected pairs of hex digits, not 'C5F'",
@@ -155,7 +231,7 @@ fn bad_features_are_one_line() {
         let number = format!("expected a feature number below 2^32, not '{given}'");
         assert_bad_usage(&["decode", "90", "--features", given], &number);
     }
-    let names = "avx, avx2, avx512f, avx512vl, avx512_vbmi";
+    let names = "avx, avx2, avx512f, avx512vl, avx512_vbmi, avx512bw";
     for (list, named) in [("avx,sse", "sse"), ("", ""), ("avx,", ""), ("-1", "-1")] {
         let message = format!("expected features among {names}, not '{named}'");
         assert_bad_usage(&["decode", "90", "--features", list], &message);

@@ -53,6 +53,27 @@ fn empty_list_has_headings_alone() {
     assert_eq!(printed(&["list", "/dev/null"]), HEADINGS);
 }
 
+/// Each of the lane permutes at its place. All features count as there, AVX512BW too.
+#[test]
+fn lane_permutes_are_listed() {
+    let code = "hex:C4E37904CA1B C4E26D0CCB C5E815CB C5ED14CB 62F1ED4815CB 62F2ED4800CB \
+                62F26D2800CB 62F26D5800CB";
+    let lines = [
+        "0\t6\tVPERMILPS\t128\t0\n",
+        "6\t5\tVPERMILPS\t256\t0\n",
+        "11\t4\tVUNPCKHPS\t128\t0\n",
+        "15\t4\tVUNPCKLPD\t256\t0\n",
+        "19\t6\tVUNPCKHPD\t512\t0\n",
+        "25\t6\tVPSHUFB\t512\t0\n",
+        "31\t6\tVPSHUFB\t256\t0\n",
+        "37\t0\t-\t0\t4\n",
+    ];
+    assert_eq!(
+        printed(&["list", code]),
+        HEADINGS.to_string() + &lines.concat()
+    );
+}
+
 #[test]
 fn lists_up_to_4096_bytes() {
     let step = [0xC5, 0xE8, 0x14, 0xCB];

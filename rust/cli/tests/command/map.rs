@@ -22,7 +22,7 @@ fn build_writes_the_entries_of_the_library() {
     let mut map = [0; 2_048];
     let code = [0xC5, 0xF9, 0x70, 0xCA, 0x1B];
     assert_eq!(
-        tarhuspo::bytemap_build(&code, &[0; 8], 31, &mut map).status,
+        tarhuspo::bytemap_build(&code, &[0; 8], 63, &mut map).status,
         0
     );
     let expected: Vec<u8> = map.into_iter().flat_map(u16::to_le_bytes).collect();
@@ -66,12 +66,16 @@ fn refused_lists_write_nothing() {
         ("hex:C5E970CA1B", 0, 4),
         ("hex:C5E814CB C5F970081B", 4, 7),
         ("hex:C4E2690DCB", 0, 7),
+        // vpermilps and vpshufb with a register as control, behind a step that has a map
+        ("hex:C5E814CB C4E2690CCB", 4, 7),
+        ("hex:C5E814CB 62F26D4800CB", 4, 7),
+        ("hex:C4E26900CB", 0, 7),
     ] {
         let refusal = format!("refused at place {place}");
         assert_refused(&["map", "build", code], &refusal, status);
         assert_refused(&["map", "build", code, "--out", &out], &refusal, status);
     }
-    let features = ["map", "build", SHUFFLE, "--features", "32"];
+    let features = ["map", "build", SHUFFLE, "--features", "64"];
     assert_refused(&features, "refused at place 0", 1);
     let long = folder.write("long.bin", [0xC5; 5_000]);
     assert_refused(&["map", "build", &long], "refused at place 0", 8);
@@ -135,6 +139,34 @@ fn show_prints_what_moves_in_runs() {
     let same = folder.write("same.map", map_with(&[]));
     let nothing = "nothing moves: every byte stays as it is\n";
     assert_eq!(printed(&["map", "show", &same]), nothing);
+}
+
+/// What each of the lane permutes without a control in a register does to every file.
+#[test]
+fn lane_permutes_have_maps() {
+    let folder = Folder::new("map_lanes");
+    let map = folder.path("lanes.map");
+    let zero = "zmm1[16..63] zero\n";
+    for (code, moved) in [
+        // vunpckhps xmm1, xmm2, xmm3
+        (
+            "hex:C5E815CB",
+            "zmm1[0..3] from zmm2[8..11]\nzmm1[4..7] from zmm3[8..11]\n\
+             zmm1[8..11] from zmm2[12..15]\nzmm1[12..15] from zmm3[12..15]\n",
+        ),
+        // vunpcklpd xmm1, xmm2, xmm3, and vunpckhpd
+        (
+            "hex:C5E914CB",
+            "zmm1[0..7] from zmm2[0..7]\nzmm1[8..15] from zmm3[0..7]\n",
+        ),
+        (
+            "hex:C5E915CB",
+            "zmm1[0..7] from zmm2[8..15]\nzmm1[8..15] from zmm3[8..15]\n",
+        ),
+    ] {
+        printed(&["map", "build", code, "--out", &map]);
+        assert_eq!(printed(&["map", "show", &map]), format!("{moved}{zero}"));
+    }
 }
 
 /// Runs end at the end of a register, of the target and of the source, and at a byte that stays.

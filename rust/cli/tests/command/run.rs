@@ -96,11 +96,91 @@ fn masks_and_features_count() {
     }
     let (status, ..) = run(&["run", code, "--registers", &before, "--out", &after]);
     assert_eq!(status, Some(0));
-    assert_eq!(folder.read("after.bin"), library_file(&bytes, [0; 8], 31));
+    assert_eq!(folder.read("after.bin"), library_file(&bytes, [0; 8], 63));
 
     let (status, out, _) = run(&["run", code, "--features", "avx,avx2"]);
     assert_eq!(status, Some(1));
     assert_eq!(out, report(0, "0 of 7", &refusal(5), "none"));
+}
+
+/// Each of the lane permutes once, on 16 bytes that are known beforehand.
+#[test]
+fn lane_permutes_move_as_the_manual_says() {
+    let folder = Folder::new("run_lanes");
+    let mut bytes = vec![0xEE; 2_048];
+    let (first, third) = (128, 192);
+    for i in 0..16 {
+        bytes[first + i] = 0x10 + i as u8;
+        // Its doublewords begin with 3F, 3A, 35 and 30.
+        bytes[third + i] = 0x3F - (i + i / 4) as u8;
+    }
+    let doublewords = |picks: [(usize, usize); 4]| elements(&bytes, 4, &picks);
+    let quadwords = |picks: [(usize, usize); 2]| elements(&bytes, 8, &picks);
+    let cases = [
+        // vpermilps xmm1, xmm2, 0x4e
+        (
+            "C4E37904CA4E",
+            doublewords([2, 3, 0, 1].map(|e| (first, e))),
+        ),
+        // vpermilps xmm1, xmm2, xmm3
+        ("C4E2690CCB", doublewords([3, 2, 1, 0].map(|e| (first, e)))),
+        // vunpckhps, vunpcklpd and vunpckhpd xmm1, xmm2, xmm3
+        (
+            "C5E815CB",
+            doublewords([(first, 2), (third, 2), (first, 3), (third, 3)]),
+        ),
+        ("C5E914CB", quadwords([(first, 0), (third, 0)])),
+        ("C5E915CB", quadwords([(first, 1), (third, 1)])),
+    ];
+    let before = folder.write("before.bin", &bytes);
+    let after = folder.path("after.bin");
+    for (code, expected) in cases {
+        let code = format!("hex:{code}");
+        printed(&["run", &code, "--registers", &before, "--out", &after]);
+        let file = folder.read("after.bin");
+        assert_eq!(file[64..80], expected, "{code}");
+        assert_eq!(file[80..128], [0; 48], "{code}");
+        assert_eq!((&file[..64], &file[128..]), (&bytes[..64], &bytes[128..]));
+    }
+}
+
+/// Elements of `size` bytes, each given by where its register starts and by its number there.
+fn elements(file: &[u8], size: usize, picks: &[(usize, usize)]) -> Vec<u8> {
+    let picked = picks
+        .iter()
+        .map(|(start, number)| &file[start + size * number..][..size]);
+    picked.collect::<Vec<_>>().concat()
+}
+
+/// vpshufb zmm1{k1}, zmm2, zmm3 with controls that have bit 7, and bits 6:4, which do not count.
+#[test]
+fn bytes_are_shuffled_or_cleared() {
+    let folder = Folder::new("run_shuffle");
+    let mut bytes = registers();
+    let controls = [0x00, 0x0F, 0x10, 0x7F, 0x80, 0xFF, 0x85, 0x05];
+    for (i, byte) in bytes[192..256].iter_mut().enumerate() {
+        *byte = controls[(i + i / 16) % 8];
+    }
+    let before = folder.write("before.bin", &bytes);
+    let after = folder.path("after.bin");
+    let (code, mask) = ("hex:62F26D4900CB", 0xFFFF_00FF_F0F0_5AA5_u64);
+    let masks = format!("hex:0 {mask:X} 0 0 0 0 0 0");
+    let given = ["--masks", &masks, "--registers", &before, "--out", &after];
+    printed(&[&["run", code], &given[..]].concat());
+    let mut expected = bytes.clone();
+    for i in (0..64).filter(|i| mask >> i & 1 == 1) {
+        let control = bytes[192 + i];
+        let source = 128 + (i & 0x30) + usize::from(control & 15);
+        expected[64 + i] = if control < 0x80 { bytes[source] } else { 0 };
+    }
+    assert_eq!(folder.read("after.bin"), expected);
+
+    let (status, out, _) = run(&[&["run", code, "--features", "31"], &given[..]].concat());
+    assert_eq!(status, Some(1));
+    assert!(
+        out.starts_with(&report(0, "0 of 6", &refusal(5), "none")),
+        "{out}"
+    );
 }
 
 /// vunpcklps xmm1, xmm2, xmm3; vpshufd xmm1, [rax], 0x1b, which a run refuses with 6
@@ -138,7 +218,7 @@ fn a_refused_run_keeps_its_steps_when_asked_to() {
     let line = "out:     holds the registers after 1 step\n";
     assert_eq!(out, refused_report() + line);
     // What the accepted instruction alone leaves.
-    let expected = library_file(&LIST_BYTES[..4], [0; 8], 31);
+    let expected = library_file(&LIST_BYTES[..4], [0; 8], 63);
     assert_ne!(expected, registers());
     assert_eq!(folder.read("after.bin"), expected);
     assert_eq!(folder.names(), ["after.bin", "before.bin"]);
@@ -151,7 +231,7 @@ fn a_refused_run_keeps_its_steps_when_asked_to() {
     assert!(out.ends_with(line), "{out}");
     assert_eq!(
         folder.read("after.bin"),
-        library_file(&LIST_BYTES, [0; 8], 31)
+        library_file(&LIST_BYTES, [0; 8], 63)
     );
 }
 
@@ -163,10 +243,10 @@ fn a_run_refused_at_once_keeps_the_start() {
     let after = folder.path("after.bin");
     let long = folder.write("long.bin", [0xC5; 4_097]);
     for (code, features, place, status) in [
-        ("hex:C5F97008 1B C5E814CB", "31", "0 of 9", 6),
-        ("hex:90", "31", "0 of 1", 3),
-        ("hex:C5E814CB", "32", "0 of 4", 1),
-        (&long, "31", "0 of 4097", 8),
+        ("hex:C5F97008 1B C5E814CB", "63", "0 of 9", 6),
+        ("hex:90", "63", "0 of 1", 3),
+        ("hex:C5E814CB", "64", "0 of 4", 1),
+        (&long, "63", "0 of 4097", 8),
     ] {
         let given = ["run", code, "--features", features, "--registers", &before];
         let arguments = [&given[..], &["--out", &after]].concat();
@@ -204,7 +284,7 @@ fn a_run_that_ends_well_needs_no_flag() {
     }
     assert_eq!(
         folder.read("with.bin"),
-        library_file(&LIST_BYTES, [0; 8], 31)
+        library_file(&LIST_BYTES, [0; 8], 63)
     );
 }
 
@@ -231,7 +311,7 @@ fn refusals_of_a_whole_run() {
     let (status, out, _) = run(&["run", &code, "--budget", "0", "--registers", &before]);
     assert_eq!(status, Some(1));
     assert_eq!(out, report(0, "0 of 4097", &refusal(8), "none"));
-    let (status, out, _) = run(&["run", "hex:", "--features", "32", "--registers", &before]);
+    let (status, out, _) = run(&["run", "hex:", "--features", "64", "--registers", &before]);
     assert_eq!(status, Some(1));
     assert_eq!(out, report(0, "0 of 0", &refusal(1), "none"));
 }
@@ -242,7 +322,7 @@ fn registers_may_be_replaced_by_the_result() {
     let file = folder.write("registers.bin", registers());
     let code = folder.write("code.bin", [0xC5, 0xE8, 0x14, 0xCB]);
     printed(&["run", &code, "--registers", &file, "--out", &file]);
-    let expected = library_file(&[0xC5, 0xE8, 0x14, 0xCB], [0; 8], 31);
+    let expected = library_file(&[0xC5, 0xE8, 0x14, 0xCB], [0; 8], 63);
     assert_eq!(folder.read("registers.bin"), expected);
     assert_eq!(folder.names(), ["code.bin", "registers.bin"]);
 }

@@ -21,6 +21,23 @@ fn overview_is_printed_when_asked_for_and_when_nothing_is() {
 }
 
 #[test]
+fn help_names_every_instruction_and_feature() {
+    let overview = printed(&["help"]);
+    let names: Vec<_> = (1..).map_while(tarhuspo::mnemonic_name).collect();
+    assert_eq!(names.len(), 10);
+    for name in names {
+        assert_eq!(overview.matches(name).count(), 1, "{name}");
+    }
+    for command in ["decode", "run", "map", "compare"] {
+        let help = printed(&["help", command]);
+        let words: Vec<_> = help.split([' ', ',', '\n']).collect();
+        for (name, _) in tarhuspo::features::NAMED {
+            assert!(words.contains(&name), "{name} in the help of {command}");
+        }
+    }
+}
+
+#[test]
 fn version_is_the_librarys() {
     let (major, minor) = (tarhuspo::version::MAJOR, tarhuspo::version::MINOR);
     assert_eq!(
