@@ -13,6 +13,19 @@ pub enum Input {
     Listing(Listing),
 }
 
+impl Input {
+    /// The features that it has, if its entry point takes any.
+    pub fn features(&self) -> Option<u32> {
+        match self {
+            Input::Decode(input) => Some(input.features),
+            Input::Step(input) => Some(input.features),
+            Input::Run(input) => Some(input.features),
+            Input::Build(input) => Some(input.features),
+            Input::Apply(_) | Input::Compose(_) | Input::Listing(_) => None,
+        }
+    }
+}
+
 /// Decoding writes to no buffer.
 pub struct Decode {
     pub features: u32,

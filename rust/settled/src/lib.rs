@@ -10,14 +10,17 @@
 pub mod answer;
 pub mod base;
 pub mod comparison;
+pub mod decoded;
 pub mod digest;
 pub mod entry_point;
 pub mod frozen;
 pub mod input;
+pub mod lane_permutes;
 pub mod pools;
 pub mod reader;
 pub mod records;
 pub mod report;
+pub mod request_1;
 pub mod results;
 pub mod room;
 pub mod rules;

@@ -2,6 +2,7 @@
 
 use crate::answer::Answer;
 use crate::input::Input;
+use crate::request_1::Request1;
 
 /// One reason of a change request for another answer.
 pub struct Rule {
@@ -38,4 +39,27 @@ pub struct Rule {
 /// - A difference counts for the first rule of this list that explains it. Where two requests
 ///   together make an answer what it is, the later one's rule says so.
 /// - A rule for which no difference is left fails the test: it is wrong, or is not needed.
-pub const RULES: &[Rule] = &[];
+pub const RULES: &[Rule] = &[
+    Rule {
+        request: 1,
+        name: "features up to 63 are not refused",
+        explains: |input, old, new| has_feature_5(input) && is_request_1(input, old, new),
+    },
+    Rule {
+        request: 1,
+        name: "bytes that answered 3 follow the new rows",
+        explains: |input, old, new| !has_feature_5(input) && is_request_1(input, old, new),
+    },
+];
+
+/// Features that request 1 no longer refuses. With fewer, and in listings, which take none, its new
+/// rows alone can change an answer.
+fn has_feature_5(input: &Input) -> bool {
+    matches!(input.features(), Some(32..=63))
+}
+
+/// Whether the two answers are those from before the request and from after it, in every part.
+fn is_request_1(input: &Input, old: &Answer, new: &Answer) -> bool {
+    let [before, after] = [Request1::Before, Request1::After].map(|request| request.answer(input));
+    before.as_ref() == Some(old) && after.as_ref() == Some(new)
+}

@@ -6,6 +6,7 @@
 //! elements.
 
 use crate::answer::Answer;
+use crate::decoded::Decoded;
 use crate::digest::Digest;
 use crate::input::{Apply, Build, Compose, Decode, Input, Listing, Run, Step};
 
@@ -22,40 +23,62 @@ pub fn answer(input: &Input) -> Answer {
     }
 }
 
-/// The digest is of the 14 fields that the base had.
-fn decode(input: &Decode) -> Answer {
-    let d = tarhuspo::decode(&input.code, input.features);
-    let fields = [
-        d.status,
-        d.length,
-        d.memory,
-        d.mnemonic,
-        d.bits,
-        d.evex,
-        d.destination,
-        d.first,
-        d.third,
-        d.mask,
-        d.zeroing,
-        d.broadcast,
-        d.has_immediate,
-        d.immediate,
-    ];
-    Answer {
+/// Decodes one instruction.
+pub fn decoded(code: &[u8], features: u32) -> Decoded {
+    let d = tarhuspo::decode(code, features);
+    Decoded {
         status: d.status,
-        numbers: vec![d.length.into()],
-        digest: Digest::of(&fields),
+        length: d.length,
+        memory: d.memory,
+        mnemonic: d.mnemonic,
+        bits: d.bits,
+        evex: d.evex,
+        destination: d.destination,
+        first: d.first,
+        third: d.third,
+        mask: d.mask,
+        zeroing: d.zeroing,
+        broadcast: d.broadcast,
+        has_immediate: d.has_immediate,
+        immediate: d.immediate,
+    }
+}
+
+/// Carries out one instruction, and gives status and length.
+pub fn stepped(
+    code: &[u8],
+    file: &mut [u8],
+    masks: &[u64],
+    features: u32,
+    memory: &[u8],
+) -> (u32, u32) {
+    let stepped = tarhuspo::step(code, file, masks, features, memory);
+    (stepped.status, stepped.length)
+}
+
+/// Builds a map, and gives status and place.
+pub fn built(code: &[u8], masks: &[u64], features: u32, map: &mut [u16]) -> (u32, u64) {
+    let built = tarhuspo::bytemap_build(code, masks, features, map);
+    (built.status, built.place)
+}
+
+fn decode(input: &Decode) -> Answer {
+    let decoded = decoded(&input.code, input.features);
+    Answer {
+        status: decoded.status,
+        numbers: vec![decoded.length.into()],
+        digest: Digest::of(&decoded.fields()),
     }
 }
 
 fn step(input: &Step) -> Answer {
     let (code, masks, memory) = (&input.code, &input.masks, &input.memory);
-    let (stepped, digest) = input
+    let ((status, length), digest) = input
         .file
-        .call(|file| tarhuspo::step(code, file, masks, input.features, memory));
+        .call(|file| stepped(code, file, masks, input.features, memory));
     Answer {
-        status: stepped.status,
-        numbers: vec![stepped.length.into()],
+        status,
+        numbers: vec![length.into()],
         digest,
     }
 }
@@ -74,12 +97,12 @@ fn run(input: &Run) -> Answer {
 
 fn build(input: &Build) -> Answer {
     let (code, masks) = (&input.code, &input.masks);
-    let (built, digest) = input
+    let ((status, place), digest) = input
         .map
-        .call(|map| tarhuspo::bytemap_build(code, masks, input.features, map));
+        .call(|map| built(code, masks, input.features, map));
     Answer {
-        status: built.status,
-        numbers: vec![built.place],
+        status,
+        numbers: vec![place],
         digest,
     }
 }

@@ -2,5 +2,6 @@
 
 mod frozen;
 mod reading;
+mod request_1;
 mod rules;
 mod settled;

@@ -1,0 +1,293 @@
+//! What an input has to answer before request 1, and after it.
+//!
+//! Bytes of the six new rows answered 3, and now do what [`lane_permutes`] says. Features over 31
+//! answered 1, and up to 63 no longer do. All other bytes are as before: no row of the base needs
+//! feature bit 5, so they are given to today's library with the features below it. That leans on
+//! nothing but answers of the library that the base holds, since most of its inputs have such bytes
+//! and such features alone.
+//!
+//! Lists are gone through here, an instruction at a time, as document 01 says it. Without the
+//! request that gives the base's answers, which a test sees on every stored input.
+
+use crate::answer::Answer;
+use crate::decoded::Decoded;
+use crate::digest::Digest;
+use crate::input::{Build, Decode, Input, Listing, Run, Step};
+use crate::lane_permutes::{self, Instruction};
+use crate::today;
+
+const FILE_SIZE: usize = 2_048;
+const MASK_COUNT: usize = 8;
+const MAP_SIZE: usize = 2_048;
+const MAP_ZERO: u16 = 2_048;
+const CODE_LIMIT: usize = 4_096;
+const TEXT_SIZE: usize = 25_624;
+
+/// The features that the base has.
+const BASE_FEATURES: u32 = 31;
+
+/// Names of the mnemonics 1, 2, 3 and so on.
+const NAMES: [&str; 10] = [
+    "VPERMILPD",
+    "VPERMB",
+    "VUNPCKLPS",
+    "VPSHUFD",
+    "VPERM2F128",
+    "VPERMILPS",
+    "VUNPCKHPS",
+    "VUNPCKLPD",
+    "VUNPCKHPD",
+    "VPSHUFB",
+];
+
+/// Whether request 1 counts.
+#[derive(Debug, Clone, Copy, PartialEq, Eq)]
+pub enum Request1 {
+    Before,
+    After,
+}
+
+/// What bytes at the start of some code are.
+enum Found {
+    /// One of the request's rows.
+    New(Instruction),
+    /// Refused.
+    Refused(u32),
+    /// Bytes that the request says nothing of.
+    Other,
+}
+
+impl Request1 {
+    /// The answer to an input; none for maps that are applied or composed, which have no code.
+    pub fn answer(self, input: &Input) -> Option<Answer> {
+        match input {
+            Input::Decode(input) => Some(self.decode(input)),
+            Input::Step(input) => Some(self.step(input)),
+            Input::Run(input) => Some(self.run(input)),
+            Input::Build(input) => Some(self.build(input)),
+            Input::Listing(input) => Some(self.listing(input)),
+            Input::Apply(_) | Input::Compose(_) => None,
+        }
+    }
+
+    fn feature_limit(self) -> u32 {
+        match self {
+            Request1::Before => 31,
+            Request1::After => 63,
+        }
+    }
+
+    fn find(self, code: &[u8], features: u32) -> Found {
+        match (lane_permutes::decode(code, features), self) {
+            (None, _) => Found::Other,
+            (Some(_), Request1::Before) => Found::Refused(3),
+            (Some(Ok(instruction)), _) => Found::New(instruction),
+            (Some(Err(status)), _) => Found::Refused(status),
+        }
+    }
+
+    fn decoded(self, code: &[u8], features: u32) -> Decoded {
+        if features > self.feature_limit() {
+            return Decoded::refused(1);
+        }
+        match self.find(code, features) {
+            Found::New(instruction) => instruction.decoded,
+            Found::Refused(status) => Decoded::refused(status),
+            Found::Other => today::decoded(code, features & BASE_FEATURES),
+        }
+    }
+
+    fn decode(self, input: &Decode) -> Answer {
+        let decoded = self.decoded(&input.code, input.features);
+        Answer {
+            status: decoded.status,
+            numbers: vec![decoded.length.into()],
+            digest: Digest::of(&decoded.fields()),
+        }
+    }
+
+    fn step(self, input: &Step) -> Answer {
+        let ((status, length), digest) = input.file.call(|file| {
+            let sizes = file.len() == FILE_SIZE && input.masks.len() == MASK_COUNT;
+            if !sizes || input.features > self.feature_limit() {
+                return (1, 0);
+            }
+            self.stepped(
+                &input.code,
+                file,
+                &input.masks,
+                input.features,
+                &input.memory,
+            )
+        });
+        Answer {
+            status,
+            numbers: vec![length.into()],
+            digest,
+        }
+    }
+
+    /// Status and length of one instruction, once answer 1 is out of the question.
+    fn stepped(
+        self,
+        code: &[u8],
+        file: &mut [u8],
+        masks: &[u64],
+        features: u32,
+        memory: &[u8],
+    ) -> (u32, u32) {
+        match self.find(code, features) {
+            Found::New(new) if memory.len() != new.decoded.memory as usize => (6, 0),
+            Found::New(new) => {
+                new.carry_out(file, masks, memory, 0);
+                (0, new.decoded.length)
+            }
+            Found::Refused(status) => (status, 0),
+            Found::Other => today::stepped(code, file, masks, features & BASE_FEATURES, memory),
+        }
+    }
+
+    fn run(self, input: &Run) -> Answer {
+        let ((status, steps, place), digest) = input.file.call(|file| self.ran(input, file));
+        Answer {
+            status,
+            numbers: vec![steps, place as u64],
+            digest,
+        }
+    }
+
+    /// Status, steps and place.
+    fn ran(self, input: &Run, file: &mut [u8]) -> (u32, u64, usize) {
+        let Run {
+            code,
+            masks,
+            features,
+            ..
+        } = input;
+        if file.len() != FILE_SIZE || masks.len() != MASK_COUNT || *features > self.feature_limit()
+        {
+            return (1, 0, 0);
+        }
+        if code.len() > CODE_LIMIT {
+            return (8, 0, 0);
+        }
+        let (mut steps, mut place) = (0, 0);
+        while place < code.len() && steps < input.budget {
+            let (status, length) = self.stepped(&code[place..], file, masks, *features, &[]);
+            if status != 0 {
+                return (status, steps, place);
+            }
+            steps += 1;
+            place += length as usize;
+        }
+        (0, steps, place)
+    }
+
+    fn build(self, input: &Build) -> Answer {
+        let ((status, place), digest) = input.map.call(|map| self.built(input, map));
+        Answer {
+            status,
+            numbers: vec![place as u64],
+            digest,
+        }
+    }
+
+    /// Status and place.
+    fn built(self, input: &Build, map: &mut [u16]) -> (u32, usize) {
+        let Build {
+            code,
+            masks,
+            features,
+            ..
+        } = input;
+        if map.len() != MAP_SIZE || masks.len() != MASK_COUNT || *features > self.feature_limit() {
+            return (1, 0);
+        }
+        if code.len() > CODE_LIMIT {
+            return (8, 0);
+        }
+        let mut entries: Vec<u16> = (0..MAP_ZERO).collect();
+        let mut place = 0;
+        while place < code.len() {
+            let (status, length) = self.mapped(&code[place..], &mut entries, masks, *features);
+            if status != 0 {
+                return (status, place);
+            }
+            place += length as usize;
+        }
+        map.copy_from_slice(&entries);
+        (0, place)
+    }
+
+    /// Moves the entries as one instruction moves bytes, and gives its status and length.
+    fn mapped(self, code: &[u8], entries: &mut [u16], masks: &[u64], features: u32) -> (u32, u32) {
+        match self.find(code, features) {
+            Found::New(new) if new.has_no_map() => (7, 0),
+            Found::New(new) => {
+                new.carry_out(entries, masks, &[], MAP_ZERO);
+                (0, new.decoded.length)
+            }
+            Found::Refused(status) => (status, 0),
+            Found::Other => map_other(code, entries, masks, features & BASE_FEATURES),
+        }
+    }
+
+    fn listing(self, input: &Listing) -> Answer {
+        let ((status, written), digest) = input.text.call(|text| {
+            if text.len() < TEXT_SIZE {
+                return (1, 0);
+            }
+            if input.code.len() > CODE_LIMIT {
+                return (8, 0);
+            }
+            let lines = self.lines(&input.code);
+            text[..lines.len()].copy_from_slice(lines.as_bytes());
+            (0, lines.len())
+        });
+        Answer {
+            status,
+            numbers: vec![written as u64],
+            digest,
+        }
+    }
+
+    /// The text of a listing, which decodes with all features that there are.
+    fn lines(self, code: &[u8]) -> String {
+        let mut lines = "at\tlen\tname\tbits\tanswer\n".to_string();
+        let mut place = 0;
+        while place < code.len() {
+            let decoded = self.decoded(&code[place..], self.feature_limit());
+            let Decoded {
+                status,
+                length,
+                bits,
+                ..
+            } = decoded;
+            if status != 0 {
+                return lines + &format!("{place}\t0\t-\t0\t{status}\n");
+            }
+            let name = NAMES[decoded.mnemonic as usize - 1];
+            lines += &format!("{place}\t{length}\t{name}\t{bits}\t0\n");
+            place += length as usize;
+        }
+        lines
+    }
+}
+
+/// An instruction of the base: its own map, and the entries that this names.
+fn map_other(code: &[u8], entries: &mut [u16], masks: &[u64], features: u32) -> (u32, u32) {
+    let decoded = today::decoded(code, features);
+    if decoded.status != 0 {
+        return (decoded.status, 0);
+    }
+    let mut own = [0; MAP_SIZE];
+    let (status, _) = today::built(&code[..decoded.length as usize], masks, features, &mut own);
+    if status != 0 {
+        return (status, 0);
+    }
+    let old = entries.to_vec();
+    for (entry, from) in entries.iter_mut().zip(own) {
+        *entry = old.get(usize::from(from)).copied().unwrap_or(MAP_ZERO);
+    }
+    (0, decoded.length)
+}
