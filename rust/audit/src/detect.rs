@@ -3,12 +3,13 @@
 use reference::limits::feature;
 
 /// The features with the names that processor vendors use, in lower case.
-pub const NAMED_FEATURES: [(&str, u32); 5] = [
+pub const NAMED_FEATURES: [(&str, u32); 6] = [
     ("avx", feature::AVX),
     ("avx2", feature::AVX2),
     ("avx512f", feature::AVX512F),
     ("avx512vl", feature::AVX512VL),
     ("avx512_vbmi", feature::AVX512_VBMI),
+    ("avx512bw", feature::AVX512BW),
 ];
 
 /// The registers that the audit can load and store.
@@ -52,7 +53,8 @@ impl RegisterSet {
 #[derive(Debug, Clone, Copy, PartialEq, Eq)]
 pub struct Capabilities {
     features: u32,
-    /// AVX512BW: opmasks have 64 bits.
+    /// AVX512BW, whatever features are left out: the audit's own loads and stores of opmasks, which
+    /// have 64 bits then, need it.
     wide_opmasks: bool,
     /// APX is on, which gives a meaning to EVEX bits that are otherwise fixed.
     apx: bool,
@@ -137,17 +139,19 @@ mod read {
         let ymm = xcr0 & YMM_STATE == YMM_STATE;
         let zmm = xcr0 & ZMM_STATE == ZMM_STATE;
         let extended = __cpuid_count(7, 0);
+        let has_avx512bw = zmm && bit(extended.ebx, 30);
         let found = [
             (feature::AVX, ymm && bit(basic.ecx, 28)),
             (feature::AVX2, ymm && bit(extended.ebx, 5)),
             (feature::AVX512F, zmm && bit(extended.ebx, 16)),
             (feature::AVX512VL, zmm && bit(extended.ebx, 31)),
             (feature::AVX512_VBMI, zmm && bit(extended.ecx, 1)),
+            (feature::AVX512BW, has_avx512bw),
         ];
         let has_subleaf_1 = extended.eax >= 1;
         Capabilities {
             features: found.iter().filter(|(_, has)| *has).map(|(f, _)| f).sum(),
-            wide_opmasks: zmm && bit(extended.ebx, 30),
+            wide_opmasks: has_avx512bw,
             apx: has_subleaf_1 && bit(__cpuid_count(7, 1).edx, 21) && xcr0 & APX_STATE != 0,
         }
     }

@@ -58,7 +58,7 @@ impl Fields {
             Prefix::Vex2 => 0,
             Prefix::Vex3 if row.vex_any_w => random.bit(),
             Prefix::Vex3 => 0,
-            Prefix::Evex => row.evex_w.unwrap_or(0),
+            Prefix::Evex => random.pick(row.evex_w),
         };
         Fields {
             prefix: shape.prefix,

@@ -29,6 +29,11 @@ impl Random {
         (self.word() % u64::from(limit)) as u8
     }
 
+    /// One of several bytes.
+    pub fn pick(&mut self, bytes: &[u8]) -> u8 {
+        bytes[usize::from(self.below(bytes.len() as u8))]
+    }
+
     pub fn bit(&mut self) -> u8 {
         self.below(2)
     }

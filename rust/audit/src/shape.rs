@@ -42,8 +42,8 @@ pub struct Row {
     pub vex_any_w: bool,
     /// What 256-bit VEX needs.
     pub vex_256: u32,
-    /// The value of W under EVEX; none if there is no EVEX form.
-    pub evex_w: Option<u8>,
+    /// The values of W under EVEX; none if there is no EVEX form.
+    pub evex_w: &'static [u8],
     /// What 512-bit EVEX needs.
     pub evex_512: u32,
     /// Bytes of a broadcast element; none if there is no broadcast.
@@ -62,7 +62,7 @@ const TWO_SOURCES: Row = Row {
     vex_l: &[0, 1],
     vex_any_w: false,
     vex_256: feature::AVX,
-    evex_w: None,
+    evex_w: &[],
     evex_512: feature::AVX512F,
     broadcast: None,
 };
@@ -74,21 +74,41 @@ const ONE_SOURCE: Row = Row {
     ..TWO_SOURCES
 };
 
+/// What the rows have that take halves of lanes in turn.
+const UNPACK: Row = Row {
+    map: 1,
+    vex_any_w: true,
+    ..TWO_SOURCES
+};
+
 #[rustfmt::skip] // one paragraph for each line of the table
-pub static ROWS: [Row; 6] = [
+pub static ROWS: [Row; 12] = [
     Row { name: "VPERMILPD", mnemonic: 1, map: 3, opcode: 0x05,
-          evex_w: Some(1), broadcast: Some(8), ..ONE_SOURCE },
+          evex_w: &[1], broadcast: Some(8), ..ONE_SOURCE },
     Row { name: "VPERMILPD", mnemonic: 1, map: 2, opcode: 0x0D,
-          evex_w: Some(1), broadcast: Some(8), ..TWO_SOURCES },
+          evex_w: &[1], broadcast: Some(8), ..TWO_SOURCES },
     Row { name: "VPERMB", mnemonic: 2, map: 2, opcode: 0x8D,
-          vex_l: &[], evex_w: Some(0), evex_512: feature::AVX512_VBMI, ..TWO_SOURCES },
-    Row { name: "VUNPCKLPS", mnemonic: 3, pp: 0, map: 1, opcode: 0x14,
-          vex_any_w: true, evex_w: Some(0), broadcast: Some(4), ..TWO_SOURCES },
+          vex_l: &[], evex_w: &[0], evex_512: feature::AVX512_VBMI, ..TWO_SOURCES },
+    Row { name: "VUNPCKLPS", mnemonic: 3, pp: 0, opcode: 0x14,
+          evex_w: &[0], broadcast: Some(4), ..UNPACK },
     Row { name: "VPSHUFD", mnemonic: 4, map: 1, opcode: 0x70,
-          vex_any_w: true, vex_256: feature::AVX2, evex_w: Some(0), broadcast: Some(4),
+          vex_any_w: true, vex_256: feature::AVX2, evex_w: &[0], broadcast: Some(4),
           ..ONE_SOURCE },
     Row { name: "VPERM2F128", mnemonic: 5, map: 3, opcode: 0x06,
           vex_l: &[1], immediate: true, ..TWO_SOURCES },
+    Row { name: "VPERMILPS", mnemonic: 6, map: 3, opcode: 0x04,
+          evex_w: &[0], broadcast: Some(4), ..ONE_SOURCE },
+    Row { name: "VPERMILPS", mnemonic: 6, map: 2, opcode: 0x0C,
+          evex_w: &[0], broadcast: Some(4), ..TWO_SOURCES },
+    Row { name: "VUNPCKHPS", mnemonic: 7, pp: 0, opcode: 0x15,
+          evex_w: &[0], broadcast: Some(4), ..UNPACK },
+    Row { name: "VUNPCKLPD", mnemonic: 8, opcode: 0x14,
+          evex_w: &[1], broadcast: Some(8), ..UNPACK },
+    Row { name: "VUNPCKHPD", mnemonic: 9, opcode: 0x15,
+          evex_w: &[1], broadcast: Some(8), ..UNPACK },
+    Row { name: "VPSHUFB", mnemonic: 10, map: 2, opcode: 0x00,
+          vex_any_w: true, vex_256: feature::AVX2, evex_w: &[0, 1],
+          evex_512: feature::AVX512BW, ..TWO_SOURCES },
 ];
 
 impl Row {
@@ -97,7 +117,7 @@ impl Row {
             // The two-byte VEX prefix stands for map 1.
             Prefix::Vex2 => self.map == 1 && self.vex_l.contains(&width),
             Prefix::Vex3 => self.vex_l.contains(&width),
-            Prefix::Evex => self.evex_w.is_some(),
+            Prefix::Evex => !self.evex_w.is_empty(),
         }
     }
 }

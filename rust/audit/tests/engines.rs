@@ -8,6 +8,8 @@ use reference::{decode, Decoded};
 const SEED: u64 = 20_240_607;
 /// Each wrong engine must be caught within so many cases.
 const ENOUGH: u64 = 4_000;
+/// Names, each with its encodings and widths.
+const FORMS: usize = 44;
 
 fn options(steps: u64) -> Options {
     Options::new(SEED, Limit::Steps(steps))
@@ -66,7 +68,7 @@ fn check_coverage(report: &Report) {
     assert_eq!(used, [32, 32, 32, 8, 7, 256]);
 }
 
-/// The widths of document 01's table, VEX and EVEX.
+/// The widths of the instruction table, VEX and EVEX.
 #[test]
 fn every_form_is_compared_or_skipped() {
     let report = passed(&mut engine::reference(), options(2_000));
@@ -78,6 +80,15 @@ fn every_form_is_compared_or_skipped() {
     let count = |name| forms.iter().filter(|form| form.name == name).count();
     let names = ["VPERMILPD", "VPERMB", "VUNPCKLPS", "VPSHUFD", "VPERM2F128"];
     assert_eq!(names.map(count), [5, 3, 5, 5, 1]);
+    let lanes = [
+        "VPERMILPS",
+        "VUNPCKHPS",
+        "VUNPCKLPD",
+        "VUNPCKHPD",
+        "VPSHUFB",
+    ];
+    assert_eq!(lanes.map(count), [5; 5]);
+    assert_eq!(forms.len(), FORMS);
 }
 
 #[test]
@@ -85,29 +96,33 @@ fn forms_that_the_processor_lacks_are_skipped() {
     if !has_all_registers() {
         return;
     }
-    let capabilities = Capabilities::detect().without(feature::AVX512_VBMI);
-    let report = passed(
-        &mut engine::reference(),
-        Options {
-            capabilities,
-            ..options(2_000)
-        },
-    );
-    assert_eq!(report.skipped.len(), 3);
-    for skipped in &report.skipped {
-        assert_eq!(
-            (skipped.form.name, skipped.lacks.as_str()),
-            ("VPERMB", "avx512_vbmi")
+    for (feature, name, lacks) in [
+        (feature::AVX512_VBMI, "VPERMB", "avx512_vbmi"),
+        (feature::AVX512BW, "VPSHUFB", "avx512bw"),
+    ] {
+        let capabilities = Capabilities::detect().without(feature);
+        let report = passed(
+            &mut engine::reference(),
+            Options {
+                capabilities,
+                ..options(2_000)
+            },
         );
+        assert_eq!(report.skipped.len(), 3);
+        for skipped in &report.skipped {
+            assert!(skipped.form.is_evex);
+            assert_eq!((skipped.form.name, skipped.lacks.as_str()), (name, lacks));
+            let text = report.to_string();
+            assert!(text.contains(&format!("{} (lacks {lacks})", skipped.form)));
+        }
+        assert_eq!(report.forms.len(), FORMS - 3);
     }
-    assert_eq!(report.forms.len(), 16);
 }
 
 /// The part for processors with AVX alone: 16 registers of 32 bytes.
 #[test]
 fn vex_forms_are_compared_without_avx512() {
-    let capabilities =
-        Capabilities::detect().without(feature::AVX512F | feature::AVX512VL | feature::AVX512_VBMI);
+    let capabilities = Capabilities::detect().without(feature::ALL - feature::AVX - feature::AVX2);
     if capabilities.register_set().is_none() {
         println!("skipped: no AVX on this machine");
         return;
@@ -393,6 +408,108 @@ fn only_the_last_lane_wrong() {
     });
 }
 
+/// VPSHUFB on registers of which no two are the same.
+fn is_byte_shuffle(call: &Call) -> bool {
+    let Decoded {
+        mnemonic,
+        destination,
+        first,
+        third,
+        ..
+    } = call.decoded;
+    let are_different = destination != first && destination != third && first != third;
+    mnemonic == 10 && call.memory.is_empty() && are_different
+}
+
+#[test]
+fn bit_7_of_a_control_not_looked_at() {
+    register_bytes_differ("VPSHUFB without zeros", |call, file, answer| {
+        if answer.0 == 0 && is_byte_shuffle(call) {
+            let mut start = call.before.to_vec();
+            let controls = &mut start[64 * call.decoded.third as usize..][..64];
+            controls.iter_mut().for_each(|control| *control &= 0x7F);
+            let after = call.from(start, call.masks);
+            file[call.destination()].copy_from_slice(&after[call.destination()]);
+        }
+    });
+}
+
+#[test]
+fn bit_7_of_a_control_counted_where_the_mask_is_0() {
+    register_bytes_differ("VPSHUFB clears what it keeps", |call, file, answer| {
+        let Decoded {
+            third, mask, bits, ..
+        } = call.decoded;
+        if answer.0 != 0 || !is_byte_shuffle(call) || mask == 0 {
+            return;
+        }
+        for (j, place) in call.destination().take(bits as usize / 8).enumerate() {
+            let is_kept = call.masks[mask as usize] >> j & 1 == 0;
+            if is_kept && call.before[64 * third as usize + j] >= 0x80 {
+                file[place] = 0;
+            }
+        }
+    });
+}
+
+#[test]
+fn bit_4_of_a_control_counted() {
+    register_bytes_differ("VPSHUFB across lanes", |call, file, answer| {
+        let Decoded {
+            first,
+            third,
+            mask,
+            bits,
+            ..
+        } = call.decoded;
+        if answer.0 != 0 || !is_byte_shuffle(call) || mask != 0 {
+            return;
+        }
+        let bytes = bits as usize / 8;
+        for (j, place) in call.destination().take(bytes).enumerate() {
+            let control = call.before[64 * third as usize + j];
+            let pick = (j / 16 * 16 + usize::from(control & 31)) % bytes;
+            if control < 0x80 {
+                file[place] = call.before[64 * first as usize + pick];
+            }
+        }
+    });
+}
+
+#[test]
+fn low_halves_taken_for_high_ones() {
+    register_bytes_differ("VUNPCKHPS as VUNPCKLPS", |call, file, answer| {
+        if answer.0 == 0 && call.decoded.mnemonic == 7 {
+            let mut low = call.code.to_vec();
+            let opcode = match low[0] {
+                0xC5 => 2,
+                0xC4 => 3,
+                _ => 4,
+            };
+            low[opcode] = 0x14;
+            file.copy_from_slice(call.before);
+            reference::step(&low, file, call.masks, feature::ALL, call.memory);
+        }
+    });
+}
+
+#[test]
+fn w_1_of_a_byte_shuffle_refused() {
+    let found = findings("VPSHUFB under EVEX with W 0 alone", |call, file, answer| {
+        let is_w1 = call.code[0] == 0x62 && call.code[2] >= 0x80;
+        if answer.0 == 0 && call.decoded.mnemonic == 10 && is_w1 {
+            file.copy_from_slice(call.before);
+            *answer = (3, 0);
+        }
+    });
+    let Some(found) = found else { return };
+    let refused = Finding::Status {
+        expected: 0,
+        found: 3,
+    };
+    assert_eq!(found[0], refused);
+}
+
 #[test]
 fn another_register_written() {
     register_bytes_differ("writes register 31 too", |call, file, answer| {
@@ -423,7 +540,7 @@ fn wrong_status_of_a_refusal() {
 #[test]
 fn wrong_status_of_an_accepted_step() {
     status_differs("5 for some 512-bit steps", |call, _, answer| {
-        if answer.0 == 0 && call.decoded.bits == 512 && call.decoded.immediate == 77 {
+        if answer.0 == 0 && call.decoded.bits == 512 && call.decoded.immediate / 8 == 9 {
             answer.0 = 5;
         }
     });

@@ -41,6 +41,7 @@ fn detection_agrees_with_the_standard_library() {
         (feature::AVX512F, is_x86_feature_detected!("avx512f")),
         (feature::AVX512VL, is_x86_feature_detected!("avx512vl")),
         (feature::AVX512_VBMI, is_x86_feature_detected!("avx512vbmi")),
+        (feature::AVX512BW, is_x86_feature_detected!("avx512bw")),
     ];
     let features = Capabilities::detect().features();
     for (bit, has) in expected {
@@ -81,18 +82,86 @@ fn high_registers_take_part() {
     assert_eq!(*processor.after(), expected);
 }
 
+/// The state with these bytes at the start of register 3.
+fn with_controls(controls: &[u8]) -> State {
+    let mut state = state();
+    state.file[192..192 + controls.len()].copy_from_slice(controls);
+    state
+}
+
+/// vpshufb zmm1, zmm2, zmm3: bit 7 of a control clears, and bits 6:4 do not count.
+#[test]
+fn controls_of_bytes_pick_or_clear() {
+    let Some(mut processor) = processor() else {
+        return;
+    };
+    let lane = [
+        (0x00, Some(0)),
+        (0x0F, Some(15)),
+        (0x10, Some(0)),
+        (0x7F, Some(15)),
+        (0x80, None),
+        (0xFF, None),
+        (0x35, Some(5)),
+        (0x8A, None),
+    ];
+    let lane = lane.repeat(2);
+    let controls: Vec<u8> = lane.iter().map(|(control, _)| *control).collect();
+    let state = with_controls(&controls.repeat(4));
+    let outcome = processor.run(&[0x62, 0xF2, 0x6D, 0x48, 0x00, 0xCB], &state, &[]);
+    assert_eq!(outcome, Outcome::Done { length: 6 });
+    let mut expected = state.clone();
+    for (j, (_, pick)) in lane.repeat(4).iter().enumerate() {
+        let source = pick.map(|pick: usize| state.file[128 + j / 16 * 16 + pick]);
+        expected.file[64 + j] = source.unwrap_or(0);
+    }
+    assert_eq!(*processor.after(), expected);
+}
+
+/// vpermilps ymm1, ymm2, ymm3 with the controls 0 to 7, and with one control in memory for all.
+#[test]
+fn controls_of_doublewords_pick_by_two_bits() {
+    let Some(mut processor) = processor() else {
+        return;
+    };
+    let controls: Vec<u8> = (0..8)
+        .flat_map(|control| [control, 0xFF, 0xFF, 0xFF])
+        .collect();
+    let state = with_controls(&controls);
+    let outcome = processor.run(&[0xC4, 0xE2, 0x6D, 0x0C, 0xCB], &state, &[]);
+    assert_eq!(outcome, Outcome::Done { length: 5 });
+    // Each lane has 0 to 3 in its bits 1:0, so that both are copied.
+    assert_eq!(processor.after().file[64..96], state.file[128..160]);
+
+    let code = [0x62, 0xF2, 0x6D, 0x38, 0x0C, 0x08];
+    for control in 0..8 {
+        let outcome = processor.run(&code, &state, &[control, 0xFF, 0xFF, 0xFF]);
+        assert_eq!(outcome, Outcome::Done { length: 6 });
+        let after = &processor.after().file[64..96];
+        for (j, doubleword) in after.chunks(4).enumerate() {
+            let source = 128 + j / 4 * 16 + 4 * usize::from(control & 3);
+            assert_eq!(doubleword, &state.file[source..source + 4]);
+        }
+    }
+}
+
 #[test]
 fn undefined_changes_nothing() {
     let Some(mut processor) = processor() else {
         return;
     };
     let state = state();
-    let undefined: [&[u8]; 5] = [
+    let undefined: [&[u8]; 10] = [
         &[0xC5, 0xE9, 0x70, 0xCA, 0x1B],
         &[0x62, 0xF1, 0x7D, 0xC8, 0x70, 0xCA, 0x1B],
         &[0x62, 0xF1, 0x7D, 0x68, 0x70, 0xCA, 0x1B],
         &[0xC4, 0xE3, 0x69, 0x06, 0xCB, 0x31],
         &[0x62, 0xF2, 0x6D, 0x58, 0x8D, 0x08],
+        &[0x62, 0xF2, 0x6D, 0x58, 0x00, 0x08], // VPSHUFB: b, with either W
+        &[0x62, 0xF2, 0xED, 0x58, 0x00, 0x08],
+        &[0xC4, 0xE3, 0xF9, 0x04, 0xCA, 0x1B], // VPERMILPS: W, vvvv
+        &[0xC4, 0xE3, 0x69, 0x04, 0xCA, 0x1B],
+        &[0x62, 0xF1, 0xED, 0x58, 0x15, 0xCB], // VUNPCKHPD: b with a register
     ];
     for code in undefined {
         let memory = [0x77; 64];
@@ -104,7 +173,7 @@ fn undefined_changes_nothing() {
 }
 
 /// Memory forms with rax as the base, and the bytes that they read.
-const MEMORY_FORMS: [(&[u8], usize); 9] = [
+const MEMORY_FORMS: [(&[u8], usize); 17] = [
     (&[0xC5, 0xF9, 0x70, 0x08, 0x1B], 16), // vpshufd xmm1, [rax], 0x1b
     (&[0xC5, 0xFD, 0x70, 0x08, 0x1B], 32), // vpshufd ymm1, [rax], 0x1b
     (&[0x62, 0xF1, 0x7D, 0x48, 0x70, 0x08, 0x1B], 64), // vpshufd zmm1, [rax], 0x1b
@@ -114,6 +183,14 @@ const MEMORY_FORMS: [(&[u8], usize); 9] = [
     (&[0x62, 0xF2, 0x6D, 0x48, 0x8D, 0x08], 64), // vpermb zmm1, zmm2, [rax]
     (&[0xC5, 0xE8, 0x14, 0x08], 16),       // vunpcklps xmm1, xmm2, [rax]
     (&[0xC4, 0xE3, 0x6D, 0x06, 0x08, 0x31], 32), // vperm2f128 ymm1, ymm2, [rax], 0x31
+    (&[0x62, 0xF3, 0x7D, 0x58, 0x04, 0x08, 0x1B], 4), // vpermilps zmm1, [rax]{1to16}, 0x1b
+    (&[0x62, 0xF2, 0x6D, 0x18, 0x0C, 0x08], 4), // vpermilps xmm1, xmm2, [rax]{1to4}
+    (&[0x62, 0xF1, 0x6C, 0x48, 0x15, 0x08], 64), // vunpckhps zmm1, zmm2, [rax]
+    (&[0xC5, 0xE9, 0x14, 0x08], 16),       // vunpcklpd xmm1, xmm2, [rax]
+    (&[0x62, 0xF1, 0xED, 0x38, 0x15, 0x08], 8), // vunpckhpd ymm1, ymm2, [rax]{1to4}
+    (&[0xC4, 0xE2, 0x6D, 0x00, 0x08], 32), // vpshufb ymm1, ymm2, [rax]
+    (&[0x62, 0xF2, 0x6D, 0x08, 0x00, 0x08], 16), // vpshufb xmm1, xmm2, [rax], with either W
+    (&[0x62, 0xF2, 0xED, 0x48, 0x00, 0x08], 64), // vpshufb zmm1, zmm2, [rax]
 ];
 
 #[test]

@@ -65,11 +65,16 @@ mod tests {
         assert_eq!(permit(&register_form), Some(Permit { memory: 0 }));
         let broadcast = [0x62, 0xF1, 0x7D, 0x58, 0x70, 0x08, 0x00];
         assert_eq!(permit(&broadcast), Some(Permit { memory: 4 }));
+        // vpshufb zmm1, zmm2, zmmword ptr [rax], with either W
+        for q in [0x6D, 0xED] {
+            let code = [0x62, 0xF2, q, 0x48, 0x00, 0x08];
+            assert_eq!(permit(&code), Some(Permit { memory: 64 }));
+        }
     }
 
     #[test]
     fn one_wrong_field_is_permitted() {
-        let damaged: [&[u8]; 8] = [
+        let damaged: [&[u8]; 10] = [
             &[0x62, 0xF9, 0x7D, 0x48, 0x70, 0xCA, 0x1B], // fixed bits of P
             &[0x62, 0xF1, 0x79, 0x48, 0x70, 0xCA, 0x1B], // fixed bit of Q
             &[0xC4, 0xE3, 0xFD, 0x05, 0xCA, 0x05],       // W
@@ -78,6 +83,8 @@ mod tests {
             &[0xC5, 0xE9, 0x70, 0xCA, 0x1B],             // vvvv
             &[0x62, 0xF1, 0x7D, 0x58, 0x70, 0xCA, 0x1B], // b
             &[0x62, 0xF1, 0x7D, 0xC8, 0x70, 0xCA, 0x1B], // z
+            &[0x62, 0xF2, 0xED, 0x58, 0x00, 0x08],       // b on VPSHUFB
+            &[0xC4, 0xE2, 0xE9, 0x0C, 0xCB],             // W on VPERMILPS
         ];
         for code in damaged {
             assert!(permit(code).is_some(), "{code:02X?}");
@@ -86,7 +93,7 @@ mod tests {
 
     #[test]
     fn nothing_else_is_permitted() {
-        let refused: [&[u8]; 9] = [
+        let refused: [&[u8]; 11] = [
             &[],
             &[0x90],
             &[0x0F, 0x05],                               // syscall
@@ -96,6 +103,8 @@ mod tests {
             &[0x62, 0xF1, 0x7D, 0x78, 0x70, 0xCA, 0x1B], // width 3 and b
             &[0x62, 0xF1, 0x7D, 0xD8, 0x70, 0xCA, 0x1B], // b and z
             &[0x62, 0xF9, 0x7D, 0x48, 0x11, 0x08],       // fixed bits, and no row
+            &[0x62, 0xF1, 0x6D, 0x48, 0x14, 0xCB],       // vunpcklpd with W 0: no row
+            &[0x62, 0xF2, 0x6D, 0xD8, 0x00, 0x08],       // b and z on VPSHUFB
         ];
         for code in refused {
             assert_eq!(permit(code), None, "{code:02X?}");
