@@ -101,7 +101,7 @@ fn print_times(input: &Input) -> Result<[f64; 3], String> {
     Ok(times)
 }
 
-/// Lists of growing length. Only VUNPCKLPS is short enough for 1,024 steps.
+/// Lists of growing length. Only VUNPCKLPS and its like are short enough for 1,024 steps.
 fn inputs() -> Vec<Input> {
     let mut random = Random::new(4);
     let mut inputs = Vec::new();
@@ -117,7 +117,7 @@ fn inputs() -> Vec<Input> {
 
 /// Instructions of 4 bytes, with random registers.
 fn shortest(steps: usize, random: &mut Random) -> List {
-    let is_shortest = |shape: &Shape| shape.prefix == Prefix::Vex2 && !shape.row.immediate;
+    let is_shortest = |shape: &Shape| shape.prefix == Prefix::Vex2 && shape.row.name == "VUNPCKLPS";
     let shapes = Shape::all().into_iter().filter(|shape| !shape.memory);
     let shapes: Vec<_> = shapes.filter(is_shortest).collect();
     let mut list = List::default();

@@ -33,6 +33,23 @@ fn report_states_sizes_with_their_units() {
     }
 }
 
+/// Each instruction has been compared, or is named among those that this machine lacks.
+#[test]
+fn report_has_every_instruction() {
+    if !has_avx() {
+        return;
+    }
+    let report = printed(&["audit", "--steps", "2000"]);
+    for name in (1..).map_while(tarhuspo::mnemonic_name) {
+        let is_compared = report.contains(&format!("\n  {name} "));
+        let skipped = report
+            .lines()
+            .find(|line| line.starts_with("forms skipped: "));
+        let is_skipped = skipped.is_some_and(|line| line.contains(name));
+        assert!(is_compared || is_skipped, "{name} in\n{report}");
+    }
+}
+
 #[test]
 fn seconds_limit_the_audit() {
     if !has_avx() {
