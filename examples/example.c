@@ -14,8 +14,9 @@
 #include <string.h>
 
 /* What the guest's processor has. */
-#define FEATURES                                                                               \
-    (TARHUSPO_AVX | TARHUSPO_AVX2 | TARHUSPO_AVX512F | TARHUSPO_AVX512VL | TARHUSPO_AVX512_VBMI)
+#define FEATURES                                                           \
+    (TARHUSPO_AVX | TARHUSPO_AVX2 | TARHUSPO_AVX512F | TARHUSPO_AVX512VL | \
+     TARHUSPO_AVX512_VBMI | TARHUSPO_AVX512BW)
 
 /* vunpcklps xmm1, xmm2, xmm3 */
 #define UNPACK 0xC5, 0xE8, 0x14, 0xCB
