@@ -2,12 +2,13 @@
 
 use crate::display;
 use crate::guard::Guarded;
+use crate::instructions::Instructions;
+use crate::limits::features;
 use crate::mapping::any_entries;
 use crate::random::Random;
 use crate::state::refill_masks;
 use crate::tally::Counts;
 use std::fmt;
-use tarhuspo::features;
 use tarhuspo::limits::MAP_SIZE;
 use tarhuspo::Built;
 
@@ -67,6 +68,8 @@ pub struct Comparison {
     last: Option<Vec<u8>>,
     pub lists: u64,
     pub counts: Counts,
+    /// The steps of accepted lists.
+    pub instructions: Instructions,
 }
 
 impl Comparison {
@@ -88,6 +91,9 @@ impl Comparison {
             self.lists += 1;
         }
         self.counts.add(library.status);
+        if library.status == 0 {
+            self.instructions.record_list(&case.code, case.features);
+        }
         library
     }
 

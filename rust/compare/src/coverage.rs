@@ -1,9 +1,11 @@
 //! Which accepted instructions have been carried out.
 
+use crate::controls::Controls;
 use crate::encoding::ROWS;
-use crate::form::{Combination, Form};
+use crate::instructions::{name, Instructions};
+use crate::stepping::Case;
 use std::collections::BTreeSet;
-use tarhuspo::{mnemonic_name, Decoded};
+use tarhuspo::Decoded;
 
 /// Which of destination, first source and third operand are the same register.
 type Shared = (bool, bool, bool);
@@ -11,7 +13,8 @@ type Shared = (bool, bool, bool);
 /// What occurred among accepted instructions.
 #[derive(Default)]
 pub struct Coverage {
-    combinations: BTreeSet<Combination>,
+    instructions: Instructions,
+    controls: Controls,
     /// Opmask numbers, with zeroing.
     masks: BTreeSet<(u32, bool)>,
     immediates: BTreeSet<(&'static str, u32)>,
@@ -22,16 +25,16 @@ pub struct Coverage {
 }
 
 impl Coverage {
-    /// Notes an instruction that was carried out.
+    /// Notes the instruction of a case that was carried out.
     ///
     /// # Panics
     ///
     /// If the instruction has a number that is no mnemonic.
-    pub fn record(&mut self, decoded: &Decoded) {
-        let Some(name) = mnemonic_name(decoded.mnemonic) else {
-            panic!("{} is no mnemonic", decoded.mnemonic);
-        };
-        self.combinations.insert(combination(name, decoded));
+    pub fn record(&mut self, decoded: &Decoded, case: &Case) {
+        let name = name(decoded.mnemonic);
+        self.instructions.record(decoded);
+        self.controls
+            .record(decoded, &case.file, &case.masks, &case.memory);
         self.masks.insert((decoded.mask, decoded.zeroing != 0));
         self.destinations.insert(decoded.destination);
         if decoded.has_immediate != 0 {
@@ -50,7 +53,8 @@ impl Coverage {
 
     /// Adds what `other` noted.
     pub fn merge(&mut self, other: &Coverage) {
-        self.combinations.extend(&other.combinations);
+        self.instructions.merge(&other.instructions);
+        self.controls.merge(&other.controls);
         self.masks.extend(&other.masks);
         self.immediates.extend(&other.immediates);
         self.destinations.extend(&other.destinations);
@@ -65,11 +69,8 @@ impl Coverage {
     ///
     /// If something that exists did not occur.
     pub fn check_complete(&self) {
-        let existing: BTreeSet<_> = Form::all().into_iter().map(Form::combination).collect();
-        assert_eq!(
-            self.combinations, existing,
-            "forms that occurred, and those of the table"
-        );
+        self.instructions.print("steps by instruction", |_| true);
+        self.controls.print();
         // Opmasks 1 to 7 with and without zeroing, and none.
         assert_eq!(self.masks.len(), 15, "opmasks: {:?}", self.masks);
         for row in ROWS.iter().filter(|row| row.immediate) {
@@ -84,11 +85,6 @@ impl Coverage {
             assert!(registers.iter().copied().eq(0..32), "{what}: {registers:?}");
         }
         self.check_shared();
-        println!(
-            "{} combinations of mnemonic, immediate, encoding, width, masking, zeroing, \
-             broadcast and operand kind, all that exist",
-            existing.len()
-        );
     }
 
     /// The five ways in which three registers can be the same occurred for every two-source form.
@@ -98,19 +94,6 @@ impl Coverage {
             let found = ways.count();
             assert_eq!(found, 5, "shared registers of {}", row.name);
         }
-    }
-}
-
-fn combination(name: &'static str, decoded: &Decoded) -> Combination {
-    Combination {
-        name,
-        immediate: decoded.has_immediate != 0,
-        evex: decoded.evex != 0,
-        bits: decoded.bits,
-        masked: decoded.mask != 0,
-        zeroing: decoded.zeroing != 0,
-        broadcast: decoded.broadcast != 0,
-        memory: decoded.memory != 0,
     }
 }
 

@@ -1,6 +1,7 @@
 //! Comparison of decoding, field by field.
 
 use crate::guard::Guarded;
+use crate::instructions::Instructions;
 
 /// Decoding gives the statuses 0 to 5.
 pub const STATUSES: usize = 6;
@@ -49,6 +50,8 @@ pub struct Comparison {
     buffer: Guarded,
     /// How many cases had each status.
     pub counts: [u64; STATUSES],
+    /// The accepted ones.
+    pub instructions: Instructions,
 }
 
 impl Comparison {
@@ -71,7 +74,8 @@ impl Comparison {
     pub fn check_part(&mut self, whole: &[u8], length: usize, features: u32) -> u32 {
         let code = &whole[..length];
         let copy = self.buffer.fill(whole);
-        let library = library_fields(tarhuspo::decode(&copy[..length], features));
+        let decoded = tarhuspo::decode(&copy[..length], features);
+        let library = library_fields(decoded);
         if !self.buffer.is_unchanged(whole) {
             panic!("decoding wrote to memory\n{}", input(code, features));
         }
@@ -83,6 +87,9 @@ impl Comparison {
         match self.counts.get_mut(status as usize) {
             Some(count) => *count += 1,
             None => panic!("status {status}\n{}", input(code, features)),
+        }
+        if status == 0 {
+            self.instructions.record(&decoded);
         }
         status
     }

@@ -1,13 +1,15 @@
 //! The proved library and the independent reference compared, on inputs of the crate `inputs`.
 
 pub mod building;
+pub mod controls;
 pub mod coverage;
 pub mod decoding;
 pub mod display;
 pub mod guard;
+pub mod instructions;
 pub mod listings;
 pub mod mapping;
 pub mod running;
 pub mod stepping;
 
-pub use inputs::{encoding, faults, form, lists, random, state, tally};
+pub use inputs::{encoding, faults, form, limits, lists, random, state, tally};

@@ -2,6 +2,8 @@
 
 use crate::display;
 use crate::guard::Guarded;
+use crate::instructions::Instructions;
+use crate::limits::features;
 use crate::tally::Counts;
 use std::fmt;
 use tarhuspo::limits::TEXT_SIZE;
@@ -51,6 +53,8 @@ pub struct Comparison {
     pub counts: Counts,
     /// Accepted listings by the status in their last line, 0 if there is none.
     pub last_lines: Counts,
+    /// The instructions that have a line.
+    pub instructions: Instructions,
 }
 
 impl Comparison {
@@ -78,6 +82,7 @@ impl Comparison {
         self.counts.add(status);
         if status == 0 {
             self.last_lines.add(last_status(self.written(library)));
+            self.instructions.record_list(&case.code, features::ALL);
         }
         library
     }

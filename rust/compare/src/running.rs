@@ -2,11 +2,12 @@
 
 use crate::display;
 use crate::guard::Guarded;
+use crate::instructions::Instructions;
+use crate::limits::features;
 use crate::random::Random;
 use crate::state::{refill_file, refill_masks};
 use crate::tally::Counts;
 use std::fmt;
-use tarhuspo::features;
 use tarhuspo::limits::MOST_STEPS;
 use tarhuspo::Ran;
 
@@ -66,6 +67,8 @@ pub struct Comparison {
     last: Option<Vec<u8>>,
     pub lists: u64,
     pub counts: Counts,
+    /// The steps that were carried out.
+    pub instructions: Instructions,
 }
 
 impl Comparison {
@@ -87,6 +90,8 @@ impl Comparison {
             self.lists += 1;
         }
         self.counts.add(library.status);
+        let done = &case.code[..library.place as usize];
+        self.instructions.record_list(done, case.features);
         library
     }
 

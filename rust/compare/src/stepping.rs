@@ -3,11 +3,11 @@
 use crate::coverage::Coverage;
 use crate::display;
 use crate::guard::Guarded;
+use crate::limits::features;
 use crate::random::Random;
 use crate::state::{refill_file, refill_masks};
 use crate::tally::Counts;
 use std::fmt;
-use tarhuspo::features;
 
 /// The inputs of a step.
 #[derive(Clone)]
@@ -109,10 +109,15 @@ impl Comparison {
         }
         if library.0 == 0 {
             let decoded = tarhuspo::decode(&case.code, case.features);
-            self.coverage.record(&decoded);
+            self.coverage.record(&decoded, case);
         }
         self.counts.add(library.0);
         library.0
+    }
+
+    /// The register file that the last step left.
+    pub fn file(&self) -> &[u8] {
+        &self.expected
     }
 
     /// The library's status and length.

@@ -2,8 +2,7 @@
 
 use compare::decoding::{library_fields, Fields};
 use compare::guard::Guarded;
-
-const ALL: u32 = 31;
+use compare::limits::features::ALL;
 
 /// Decodes `code` between guard bytes, and sees that code and guard bytes stay.
 fn decode(code: &[u8], features: u32) -> Fields {
@@ -79,4 +78,17 @@ fn unknown_features_are_refused_before_the_code_is_read() {
             assert_eq!(decode(code, features), refused(1), "features {features:#x}");
         }
     }
+}
+
+#[test]
+fn every_set_of_features_is_allowed() {
+    for features in 0..=ALL {
+        assert_eq!(decode(&[], features), refused(2), "features {features}");
+    }
+    // VPSHUFB zmm1, zmm2, zmm3 needs AVX512BW alone.
+    let code = [0x62, 0xF2, 0x6D, 0x48, 0x00, 0xCB];
+    let accepted = [0, 6, 0, 10, 512, 1, 1, 2, 3, 0, 0, 0, 0, 0];
+    assert_eq!(decode(&code, 31), refused(5));
+    assert_eq!(decode(&code, 32), accepted);
+    assert_eq!(decode(&code, ALL), accepted);
 }

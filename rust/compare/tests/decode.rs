@@ -2,9 +2,10 @@
 
 use compare::decoding::{Comparison, STATUSES};
 use compare::encoding::{Prefix, Shape};
+use compare::instructions::Instructions;
+use compare::limits::features::{ALL, SETS};
 use compare::random::Random;
 
-const ALL: u32 = 31;
 const LEAST: u64 = 1_000_000;
 
 /// A kind of input: its name, and what compares all inputs of that kind.
@@ -30,6 +31,7 @@ const KINDS: [Kind; 14] = [
 #[test]
 fn library_agrees_with_reference() {
     let mut totals = [0; STATUSES];
+    let mut instructions = Instructions::default();
     println!(
         "{:24}{:>10}  by status 0 to 5",
         "compared decodings", "cases"
@@ -45,6 +47,7 @@ fn library_agrees_with_reference() {
         for (total, count) in totals.iter_mut().zip(comparison.counts) {
             *total += count;
         }
+        instructions.merge(&comparison.instructions);
     }
     report("total", totals);
     assert!(
@@ -55,6 +58,7 @@ fn library_agrees_with_reference() {
         totals.iter().all(|&total| total > 0),
         "a status from 0 to 5 never occurred"
     );
+    instructions.print("accepted, by instruction", |_| true);
 }
 
 fn report(name: &str, counts: [u64; STATUSES]) {
@@ -193,7 +197,7 @@ fn flipped_truncations(comparison: &mut Comparison) {
         for bit in 0..8 * code.len() {
             code[bit / 8] ^= 1 << (bit % 8);
             for length in 0..code.len() {
-                comparison.check_part(&code, length, (bit + length) as u32 % 32);
+                comparison.check_part(&code, length, (bit + length) as u32 % SETS as u32);
             }
             code[bit / 8] ^= 1 << (bit % 8);
         }
@@ -220,7 +224,7 @@ fn first_bytes(comparison: &mut Comparison) {
             let length = random.below(20);
             let mut code = random.bytes(1 + length);
             code[0] = first;
-            comparison.check(&code, random.below(34) as u32);
+            comparison.check(&code, random.below(SETS + 2) as u32);
         }
     }
 }
@@ -231,17 +235,17 @@ fn random_behind_prefix(comparison: &mut Comparison) {
         for _ in 0..200_000 {
             let mut code = random.bytes(15);
             code[0] = first;
-            comparison.check(&code, random.below(32) as u32);
+            comparison.check(&code, random.below(SETS) as u32);
         }
     }
 }
 
 /// Small feature numbers, each single bit alone and beside the known ones, and the largest.
 fn feature_numbers(comparison: &mut Comparison) {
-    let single = (5..32).map(|bit| 1 << bit);
-    let mut numbers: Vec<u32> = (0..=40).chain(single.clone()).collect();
+    let single = (6..32).map(|bit| 1 << bit);
+    let mut numbers: Vec<u32> = (0..=72).chain(single.clone()).collect();
     numbers.extend(single.map(|bit| bit | ALL));
-    numbers.extend([u32::MAX, u32::MAX - 1, u32::MAX << 5, u32::MAX >> 1]);
+    numbers.extend([u32::MAX, u32::MAX - 1, u32::MAX << 6, u32::MAX >> 1]);
 
     let mut random = Random::new(12);
     let mut codes = vec![vec![], vec![0x62], vec![0x90], random.bytes(15)];

@@ -71,6 +71,18 @@ fn program_prints_listings() {
     let text = format!("{HEADINGS}0\t12\tVPSHUFD\t512\t0\n");
     check(program, &LONGEST, &text);
 
+    // It decodes with every feature: VPERMB needs one of its own, VPSHUFB another.
+    let own_features = [
+        [0x62, 0xF2, 0x6D, 0x48, 0x8D, 0xCB],
+        [0x62, 0xF2, 0x6D, 0x48, 0x00, 0xCB],
+    ];
+    let lines = "0\t6\tVPERMB\t512\t0\n6\t6\tVPSHUFB\t512\t0\n";
+    check(
+        program,
+        own_features.as_flattened(),
+        &format!("{HEADINGS}{lines}"),
+    );
+
     let full = SHORTEST.repeat(LIMIT / SHORTEST.len());
     assert_eq!(full.len(), LIMIT);
     check(program, &full, &format!("{HEADINGS}{}", lines_of(1_024)));

@@ -2,6 +2,8 @@
 
 use compare::faults::Fault;
 use compare::form::Form;
+use compare::instructions::Instructions;
+use compare::limits::features::ALL;
 use compare::listings::{Case, Comparison};
 use compare::lists::{List, Mix};
 use compare::random::Random;
@@ -31,11 +33,13 @@ const KINDS: [Kind; 9] = [
 fn library_agrees_with_reference() {
     let mut table = Table::new("compared listings", &[0, 1, 8]);
     let mut last_lines = Vec::new();
+    let mut instructions = Instructions::default();
     for (name, compare_all) in KINDS {
         let mut comparison = Comparison::default();
         compare_all(&mut comparison);
         table.line(name, comparison.counts);
         last_lines.push((name, comparison.last_lines));
+        instructions.merge(&comparison.instructions);
     }
     table.finish(LEAST);
 
@@ -45,6 +49,7 @@ fn library_agrees_with_reference() {
         table.line(name, counts);
     }
     table.finish(1);
+    instructions.print("lines by instruction", |_| true);
 }
 
 /// Compares a list whose text is known.
@@ -74,15 +79,23 @@ fn written_out(comparison: &mut Comparison) {
         &[0xC5, 0xE9, 0x70, 0xCA, 0x1B],
         "0\t0\t-\t0\t4\n",
     );
-    let names: [&[u8]; 5] = [
+    let names: [&[u8]; 10] = [
         &[0xC4, 0xE3, 0x7D, 0x05, 0xCA, 0x05],
         &[0x62, 0xF2, 0x6D, 0x48, 0x8D, 0x8C, 0x24, 1, 2, 3, 4],
         &[0xC5, 0xE8, 0x14, 0xCB],
         &[0x62, 0xF1, 0x7D, 0x58, 0x70, 0x8C, 0x24, 1, 2, 3, 4, 9],
         &[0xC4, 0xE3, 0x6D, 0x06, 0xCB, 0x88],
+        &[0xC4, 0xE3, 0x79, 0x04, 0xCA, 0x1B],
+        &[0xC5, 0xE8, 0x15, 0xCB],
+        &[0xC4, 0xE1, 0xED, 0x14, 0xCB],
+        &[0x62, 0xF1, 0xED, 0x48, 0x15, 0xCB],
+        &[0x62, 0xF2, 0xED, 0x48, 0x00, 0xCB],
     ];
     let lines = "0\t6\tVPERMILPD\t256\t0\n6\t11\tVPERMB\t512\t0\n17\t4\tVUNPCKLPS\t128\t0\n\
-                 21\t12\tVPSHUFD\t512\t0\n33\t6\tVPERM2F128\t256\t0\n";
+                 21\t12\tVPSHUFD\t512\t0\n33\t6\tVPERM2F128\t256\t0\n\
+                 39\t6\tVPERMILPS\t128\t0\n45\t4\tVUNPCKHPS\t128\t0\n\
+                 49\t5\tVUNPCKLPD\t256\t0\n54\t6\tVUNPCKHPD\t512\t0\n\
+                 60\t6\tVPSHUFB\t512\t0\n";
     check_text(comparison, &names.concat(), lines);
 
     let many = [0xC5, 0xE8, 0x14, 0xCB].repeat(CODE_LIMIT / 4);
@@ -146,7 +159,7 @@ fn bad_steps(comparison: &mut Comparison) {
     let faults = [(Fault::Short, 2), (Fault::NoRow, 3), (Fault::Reserved, 4)];
     for_lists(3, 1_000, 9, |list, case, random| {
         let (fault, status) = random.pick(&faults);
-        let Some(bad) = fault.encode(31, random) else {
+        let Some(bad) = fault.encode(ALL, random) else {
             return;
         };
         case.behind = random.bytes(8);

@@ -1,11 +1,12 @@
 //! A run of the library gives the same numbers and leaves the same bytes as one of the reference.
 
 use compare::faults::{Fault, FEATURE_SETS, RUN_FAULTS};
+use compare::instructions::Instructions;
+use compare::limits::features::{ALL, SETS};
 use compare::lists::{List, Mix};
 use compare::random::Random;
 use compare::running::{Case, Comparison};
 use compare::tally::Table;
-use tarhuspo::features::ALL;
 use tarhuspo::limits::{CODE_LIMIT, FILE_SIZE, MASK_COUNT, MOST_STEPS};
 use tarhuspo::Ran;
 
@@ -32,15 +33,18 @@ const KINDS: [Kind; 9] = [
 fn library_agrees_with_reference() {
     let mut table = Table::new("compared runs", &[0, 1, 2, 3, 4, 5, 6, 8]);
     let mut lists = 0;
+    let mut instructions = Instructions::default();
     for (name, compare_all) in KINDS {
         let mut comparison = Comparison::default();
         compare_all(&mut comparison);
         table.line(name, comparison.counts);
         lists += comparison.lists;
+        instructions.merge(&comparison.instructions);
     }
     table.finish(LEAST_RUNS);
     println!("{lists} lists");
     assert!(lists >= LEAST_LISTS, "fewer than {LEAST_LISTS} lists");
+    instructions.print("steps by instruction", |form| !form.shape.memory);
 }
 
 /// Calls `each` with `count` accepted lists of at most `most` steps, and a case that has their code.
@@ -343,7 +347,7 @@ fn any_bytes(comparison: &mut Comparison) {
             *first = random.pick(&[*first, 0xC4, 0xC5, 0x62]);
         }
         case.budget = random.below(5) as u64;
-        case.features = random.below(33) as u32;
+        case.features = random.below(SETS + 1) as u32;
         comparison.check(&case);
     }
 }

@@ -4,11 +4,11 @@
 use compare::coverage::Coverage;
 use compare::encoding::Shape;
 use compare::form::Form;
+use compare::limits::features::{ALL, SETS};
+use compare::limits::{FILE_SIZE, MASK_COUNT};
 use compare::random::Random;
 use compare::stepping::{Case, Comparison};
 use compare::tally::Table;
-use tarhuspo::features::ALL;
-use tarhuspo::limits::{FILE_SIZE, MASK_COUNT};
 
 const LEAST: u64 = 1_000_000;
 
@@ -231,10 +231,10 @@ fn mask_counts(comparison: &mut Comparison) {
 
 /// Every set of features, each single higher bit alone and beside all features, and the largest.
 fn feature_numbers(comparison: &mut Comparison) {
-    let single = (5..32).map(|bit| 1 << bit);
-    let mut numbers: Vec<u32> = (0..=40).chain(single.clone()).collect();
+    let single = (6..32).map(|bit| 1 << bit);
+    let mut numbers: Vec<u32> = (0..=72).chain(single.clone()).collect();
     numbers.extend(single.map(|bit| bit | ALL));
-    numbers.extend([u32::MAX, u32::MAX - 1, u32::MAX << 5, u32::MAX >> 1]);
+    numbers.extend([u32::MAX, u32::MAX - 1, u32::MAX << 6, u32::MAX >> 1]);
     for_forms(10, 4, |_, case, _| {
         for &features in &numbers {
             case.features = features;
@@ -302,7 +302,7 @@ fn random_behind_prefix(comparison: &mut Comparison) {
             let mut code = random.bytes(15);
             code[0] = first;
             case.set_code(code, 0, &mut random);
-            case.features = random.below(32) as u32;
+            case.features = random.below(SETS) as u32;
             fit_memory(&mut case, &mut random);
             comparison.check(&case);
         }
@@ -316,7 +316,7 @@ fn any_bytes(comparison: &mut Comparison) {
         let length = random.below(20);
         let memory = random.below(66);
         case.set_code(random.bytes(length), memory, &mut random);
-        case.features = random.below(34) as u32;
+        case.features = random.below(SETS + 2) as u32;
         comparison.check(&case);
     }
 }
@@ -340,7 +340,7 @@ fn several_faults(comparison: &mut Comparison) {
             case.set_memory(wrong, random);
         }
         if missing {
-            case.features = random.below(32) as u32;
+            case.features = random.below(SETS) as u32;
         }
         if unknown && random.flag() {
             case.features |= 1 << random.below(32);

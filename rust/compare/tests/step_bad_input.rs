@@ -1,9 +1,9 @@
 //! Exact answers of a step for inputs that a careless caller may pass.
 
 use compare::guard::Guarded;
+use compare::limits::features::ALL;
 use tarhuspo::Stepped;
 
-const ALL: u32 = 31;
 /// vpshufd xmm1, xmm2, 0x1b
 const REGISTER_FORM: [u8; 5] = [0xC5, 0xF9, 0x70, 0xCA, 0x1B];
 /// vpshufd zmm1{k1}, [64 bytes], 0x1b

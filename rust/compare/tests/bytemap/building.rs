@@ -4,9 +4,9 @@ use crate::Kind;
 use compare::building::{Case, Comparison};
 use compare::faults::{Fault, BUILD_FAULTS, FEATURE_SETS};
 use compare::form::Form;
+use compare::limits::features::{ALL, SETS};
 use compare::lists::{List, Mix};
 use compare::random::Random;
-use tarhuspo::features::ALL;
 use tarhuspo::limits::{CODE_LIMIT, MAP_SIZE, MASK_COUNT, MOST_STEPS};
 use tarhuspo::Built;
 
@@ -216,7 +216,7 @@ fn any_bytes(comparison: &mut Comparison) {
         if let Some(first) = case.code.first_mut() {
             *first = random.pick(&[*first, 0xC4, 0xC5, 0x62]);
         }
-        case.features = random.below(33) as u32;
+        case.features = random.below(SETS + 1) as u32;
         comparison.check(&case);
     }
 }

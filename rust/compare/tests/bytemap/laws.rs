@@ -2,10 +2,10 @@
 
 use crate::maps::{old_map, valid_map};
 use crate::Kind;
+use compare::limits::features::ALL;
 use compare::lists::Mix;
 use compare::random::Random;
 use compare::{building, mapping, running};
-use tarhuspo::features::ALL;
 use tarhuspo::limits::{CODE_LIMIT, FILE_SIZE, MAP_SIZE, MAP_ZERO, MOST_STEPS};
 
 pub const KINDS: [Kind<Laws>; 6] = [
