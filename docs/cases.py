@@ -1,10 +1,10 @@
 #!/usr/bin/env python3
 """The expected output of the program `cases` (crates/cases/stdout), worked out without the library.
 
-Each line of document 01's table of cases has its answer, length, memory and destination bytes written here by
-hand, from that document's rules for the instruction: there is no decoder. From the repository's top, `python3
-docs/cases.py > crates/cases/stdout` writes the file. `.ci/run` compares the file with what this prints, and `rt check
-cases` with what the program prints.
+Each line of document 01's table of cases, and each case of request 1, has its answer, length, memory and destination
+bytes written here by hand, from the papers' rules for the instruction: there is no decoder. From the repository's top,
+`python3 docs/cases.py > crates/cases/stdout` writes the file. `.ci/run` compares the file with what this prints, and
+`rt check cases` with what the program prints.
 """
 
 REGISTERS, BYTES = 32, 64
@@ -33,6 +33,16 @@ def zeros(count):
     return [0] * count
 
 
+# Elements of registers 2 and 3 in turn, by their numbers.
+def in_turn(part, which):
+    return [n for k in which for r in (2, 3) for n in part(r, [k])]
+
+
+# Every lane's four doublewords are one of its own.
+def repeated_dword(r, k):
+    return [n for lane in range(4) for n in dwords(r, [4 * lane + k] * 4)]
+
+
 # Imm8 1B is 00 01 10 11 from its high bits: doublewords 3, 2, 1, 0 of each lane.
 def turned(r, lane):
     return dwords(r, [4 * lane + 3, 4 * lane + 2, 4 * lane + 1, 4 * lane])
@@ -51,7 +61,8 @@ def refused(answer):
     return (answer, 0, 0, None, None)
 
 
-CASES = [
+# Document 01's cases.
+BASE = [
     # VPSHUFD xmm1, xmm2, 1B
     ("C5 F9 70 CA 1B", accepted(5, 0, 1, turned(2, 0) + zeros(48))),
     # The immediate is missing.
@@ -88,8 +99,85 @@ CASES = [
     ("C4 E3 6D 06 CB 88", accepted(6, 0, 1, zeros(64))),
 ]
 
-# Case 13 once more, on files where quadword 0 of xmm3 is 2 (bit 1 is 1: high) and quadword 1 is 1 (bit 1 is 0: low).
-CONTROLLED = ("C4 E2 69 0D CB", accepted(5, 0, 1, qwords(2, [1, 0]) + zeros(48)))
+# The numbers in register 2 are 129 to 192, so its bytes are 0 in the high file, and what a control takes from it there
+# is 0 too. Register 3 has the numbers 193 to 256: byte 63 is 0 in the low file and 1 in the high file, and the bytes
+# before it are C1 to FF in the low file and 0 in the high file.
+
+# As VPSHUFB's controls, C1 to FF clear. Byte 63 takes byte 0 of its lane in the low file.
+SHUFFLED = zeros(63) + register(2, 48, 1)
+
+# As VPERMILPS's controls, the doublewords of register 3 begin with 01 in their low bits in the low file, and so does
+# memory, whose first byte is 3001 % 256 = B9.
+SECOND_DWORDS = repeated_dword(2, 1)
+
+# k1 is 5555: of lane 0 the even bytes are cleared as above and the odd ones kept, and the other lanes are kept whole.
+KEPT_ODD = [0 if b % 2 == 0 else 64 + b + 1 for b in range(16)] + register(1, 16, 48)
+
+# Request 1's cases, and more of its instructions with controls: the features stand in front.
+MORE = [
+    # VUNPCKHPS xmm1, xmm2, xmm3
+    (63, "C5 E8 15 CB", accepted(4, 0, 1, in_turn(dwords, [2, 3]) + zeros(48))),
+    # VPERMILPS xmm1, xmm2, 1B: as case 1.
+    (63, "C4 E3 79 04 CA 1B", accepted(6, 0, 1, turned(2, 0) + zeros(48))),
+    # VPSHUFB zmm1, zmm2, zmm3, with W 0 and with W 1
+    (63, "62 F2 6D 48 00 CB", accepted(6, 0, 1, SHUFFLED)),
+    (63, "62 F2 ED 48 00 CB", accepted(6, 0, 1, SHUFFLED)),
+    # VPSHUFB with b.
+    (63, "62 F2 6D 58 00 08", refused(4)),
+    # AVX512BW is missing.
+    (31, "62 F2 6D 48 00 CB", refused(5)),
+    # VUNPCKLPD xmm1, xmm2, xmm3, with W 0 and with W 1
+    (63, "C5 E9 14 CB", accepted(4, 0, 1, in_turn(qwords, [0]) + zeros(48))),
+    (63, "C4 E1 E9 14 CB", accepted(5, 0, 1, in_turn(qwords, [0]) + zeros(48))),
+    # Under EVEX, W 0 has no row.
+    (63, "62 F1 6D 48 14 CB", refused(3)),
+    # VUNPCKLPD zmm1, zmm2, zmm3
+    (63, "62 F1 ED 48 14 CB", accepted(6, 0, 1, in_turn(qwords, [0, 2, 4, 6]))),
+    # VUNPCKHPD xmm1, xmm2, xmm3
+    (63, "C5 E9 15 CB", accepted(4, 0, 1, in_turn(qwords, [1]) + zeros(48))),
+    # VPERMILPS zmm1, zmm2, zmm3, and with m32 repeated
+    (63, "62 F2 6D 48 0C CB", accepted(6, 0, 1, SECOND_DWORDS)),
+    (63, "62 F2 6D 58 0C 08", accepted(6, 4, 1, SECOND_DWORDS)),
+    # VPSHUFB zmm1{k1}, zmm2, zmm3
+    (63, "62 F2 6D 49 00 CB", accepted(6, 0, 1, KEPT_ODD)),
+]
+
+CASES = [(31, code, result) for code, result in BASE] + MORE
+
+# Controls for a lane. Every lane of register 3 and of memory has them, in both files.
+
+# Quadwords 2 (bit 1 is 1: high) and 1 (bit 1 is 0: low).
+QWORDS_2_1 = [2] + [0] * 7 + [1] + [0] * 7
+# As request 1 lists them: they take bytes 0, 15, 0, 15 of their lane, and the last two clear.
+SIX = [0x00, 0x0F, 0x10, 0x7F, 0x80, 0xFF]
+BYTE_CONTROLS = SIX + SIX + SIX[:4]
+# Of which bits 1:0 count.
+DWORDS_3210 = [3, 0, 0, 0, 2, 0, 0, 0, 1, 0, 0, 0, 0, 0, 0, 0]
+DWORDS_6745 = [6, 0, 0, 0, 7, 0, 0, 0, 4, 0, 0, 0, 5, 0, 0, 0]
+
+
+def by_bytes(r, lane):
+    low, high = register(r, 16 * lane, 1), register(r, 16 * lane + 15, 1)
+    six = low + high + low + high + zeros(2)
+    return six + six + low + high + low + high
+
+
+# Case 30: its even bytes of lane 0 are those of case 19.
+def even_by_bytes():
+    return [by_bytes(2, 0)[b] if b % 2 == 0 else KEPT_ODD[b] for b in range(16)] + register(1, 16, 48)
+
+
+# The number of a case, its controls, and what the destination gets.
+CONTROLLED = [
+    (13, QWORDS_2_1, qwords(2, [1, 0]) + zeros(48)),
+    (19, BYTE_CONTROLS, by_bytes(2, 0) + by_bytes(2, 1) + by_bytes(2, 2) + by_bytes(2, 3)),
+    (28, DWORDS_3210, turned(2, 0) + turned(2, 1) + turned(2, 2) + turned(2, 3)),
+    (28, DWORDS_6745, dwords(2, [2, 3, 0, 1, 6, 7, 4, 5, 10, 11, 8, 9, 14, 15, 12, 13])),
+    # One doubleword is repeated, the first.
+    (29, DWORDS_3210, repeated_dword(2, 3)),
+    (29, DWORDS_6745, repeated_dword(2, 2)),
+    (30, BYTE_CONTROLS, even_by_bytes()),
+]
 
 
 def plain_numbers():
@@ -97,10 +185,9 @@ def plain_numbers():
 
 
 # The same control bytes stand in both files, so a control byte c is shown as c + 256 c.
-def controlled_numbers():
+def controlled_numbers(control):
     numbers = plain_numbers()
-    control = [2] + [0] * 7 + [1] + [0] * 7
-    numbers[3 * BYTES:3 * BYTES + 16] = [c + 256 * c for c in control]
+    numbers[3 * BYTES:4 * BYTES] = [c + 256 * c for c in 4 * control]
     return numbers
 
 
@@ -111,8 +198,8 @@ def digest(numbers):
     return d
 
 
-def show(case, numbers):
-    code, (answer, length, memory, destination, content) = case
+def show(code, result, numbers):
+    answer, length, memory, destination, content = result
     print(code.lower())
     print(f"decode: answer {answer}, length {length}, memory {memory}")
     print(f"step, low file: answer {answer}, length {length}")
@@ -131,20 +218,26 @@ def show(case, numbers):
     print(f"{which} unchanged: digest {d} before, {d} after")
 
 
+def show_controlled(number, control, content):
+    features, code, (answer, length, memory, destination, _) = CASES[number - 1]
+    lane = "".join(f" {c:02x}" for c in control)
+    print()
+    print(f"case {number} with features {features}, every lane of register 3 and of memory{lane}: ", end="")
+    show(code, (answer, length, memory, destination, content), controlled_numbers(control))
+
+
 def main():
-    print("features: 63")
     print("masks:" + "".join(f" {m:x}" for m in MASKS))
     print("files: byte p is (p + 1) % 256 in the low file and (p + 1) / 256 in the high file")
     print("memory: byte j is (3001 + j) % 256 for the low file and (3001 + j) / 256 for the high file")
     print("shown: low byte + 256 * high byte, so 0 is zero, p + 1 the byte from offset p, 3001 + j memory byte j")
     print("digest: from 0, d = (16777619 * d + number) % 4294967296 over the numbers shown, in the order of offsets")
-    for number, case in enumerate(CASES, 1):
+    for number, (features, code, result) in enumerate(CASES, 1):
         print()
-        print(f"case {number}: ", end="")
-        show(case, plain_numbers())
-    print()
-    print("case 13, with the quadwords of register 3 set to 2 and 1 in both files: ", end="")
-    show(CONTROLLED, controlled_numbers())
+        print(f"case {number} with features {features}: ", end="")
+        show(code, result, plain_numbers())
+    for number, control, content in CONTROLLED:
+        show_controlled(number, control, content)
 
 
 main()
