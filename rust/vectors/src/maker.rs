@@ -1,6 +1,7 @@
 //! Random codes, features and sizes, right ones and wrong ones.
 
 use crate::layout::{Span, CODE_ROOM, MASKS_ROOM, MOST};
+use inputs::encoding::{Row, ROWS};
 use inputs::faults::Fault;
 use inputs::form::Form;
 use inputs::limits::features::{ALL, SETS};
@@ -9,20 +10,27 @@ use inputs::random::Random;
 
 pub struct Maker {
     pub random: Random,
-    forms: Vec<Form>,
+    /// The forms of each row of the table.
+    rows: Vec<Vec<Form>>,
+    /// Instructions made so far.
+    made: usize,
 }
 
 impl Maker {
     pub fn new(seed: u64) -> Maker {
         Maker {
             random: Random::new(seed),
-            forms: Form::all(),
+            rows: ROWS.iter().map(forms_of).collect(),
+            made: 0,
         }
     }
 
-    /// An instruction that all features together accept.
+    /// An instruction that all features together accept. The rows take turns, so that a dozen
+    /// inputs have every one.
     pub fn accepted(&mut self) -> Vec<u8> {
-        let form = self.random.pick(&self.forms);
+        let forms = &self.rows[self.made % self.rows.len()];
+        self.made += 1;
+        let form = self.random.pick(forms);
         form.encode(&mut self.random)
     }
 
@@ -123,4 +131,9 @@ impl Maker {
             _ => random.below(right),
         }
     }
+}
+
+fn forms_of(row: &'static Row) -> Vec<Form> {
+    let is_own = |form: &Form| std::ptr::eq(form.shape.row, row);
+    Form::all().into_iter().filter(is_own).collect()
 }

@@ -1,7 +1,9 @@
 //! There are inputs enough, of every status and form, and no two are the same.
 
 use crate::vectors;
+use inputs::encoding::ROWS;
 use inputs::form::Form;
+use inputs::limits::features::ALL;
 use std::collections::BTreeSet;
 use vectors::layout::{CODE_ROOM, INPUTS};
 use vectors::lists::{Build, ListInput, Listing, Run};
@@ -70,6 +72,56 @@ fn every_form_is_decoded_and_carried_out() {
     let accepted = samples.iter().filter(|(kind, _)| *kind == "accepted");
     let inputs = accepted.flat_map(|(_, inputs)| inputs);
     expect_every_form("the step", inputs.map(|i| (&i.code[..], i.features)));
+}
+
+/// Kinds of which no input, or hardly one, is an instruction as the table has it.
+const DAMAGED: [&str; 6] = [
+    "cut",
+    "no row",
+    "reserved field",
+    "one bit flipped, cut",
+    "15 bytes from a prefix",
+    "any bytes",
+];
+
+/// The rows of the instructions at the start of `code`, told apart by mnemonic and immediate.
+fn rows_of(code: &[u8], most: usize) -> BTreeSet<(u32, u32)> {
+    let mut rows = BTreeSet::new();
+    let mut rest = code;
+    for _ in 0..most {
+        let decoded = reference::decode(rest, ALL);
+        if decoded.status != 0 {
+            break;
+        }
+        rows.insert((decoded.mnemonic, decoded.has_immediate));
+        rest = &rest[decoded.length as usize..];
+    }
+    rows
+}
+
+fn expect_rows<I>(samples: &Samples<I>, code: fn(&I) -> &[u8], most: usize, least: usize) {
+    for (kind, inputs) in samples {
+        let rows = inputs.iter().flat_map(|input| rows_of(code(input), most));
+        let found = rows.collect::<BTreeSet<_>>().len();
+        let expected = if DAMAGED.contains(kind) { 0 } else { least };
+        assert!(found >= expected, "{kind}: {found} rows");
+    }
+}
+
+#[test]
+fn every_kind_has_every_row() {
+    expect_rows(&decode_inputs(), |input| &input.code, 1, ROWS.len());
+    expect_rows(&step_inputs(), |input| &input.code, 1, ROWS.len());
+    // Most lists are made of steps that a byte map can describe.
+    let mappable = ROWS.iter().filter(|row| row.control.is_none()).count();
+    let lists = list_inputs();
+    expect_rows(&lists, |input| &input.code, CODE_ROOM, mappable);
+    let controls = lists
+        .into_iter()
+        .filter(|(kind, _)| kind.contains("control"));
+    let controls: Vec<_> = controls.collect();
+    assert_eq!(controls.len(), 1);
+    expect_rows(&controls, |input| &input.code, CODE_ROOM, ROWS.len());
 }
 
 #[test]
