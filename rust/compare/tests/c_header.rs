@@ -25,6 +25,8 @@ fn c_program_runs_against_the_archive() {
                     too short: 2 0 0 0 0 0 0 0 0 0 0 0 0 0\n\
                     empty: 2 0 0 0 0 0 0 0 0 0 0 0 0 0\n\
                     features: 1 0 0 0 0 0 0 0 0 0 0 0 0 0\n\
+                    vpshufb: 0 6 0 10 512 1 1 2 3 0 0 0 0 0\n\
+                    without avx512bw: 5 0 0 0 0 0 0 0 0 0 0 0 0 0\n\
                     step: 0 7, bytes 0 5 8 0 0\n\
                     refused step: 6 0, bytes 5 8\n\
                     run: 2 9 3, bytes 199 134 0\n\
@@ -44,7 +46,7 @@ fn c_program_runs_against_the_archive() {
 }
 
 /// The constants of the Rust wrapper, under the names that the header gives them.
-const CONSTANTS: [(&str, u64); 14] = [
+const CONSTANTS: [(&str, u64); 15] = [
     ("VERSION_MAJOR", version::MAJOR as u64),
     ("VERSION_MINOR", version::MINOR as u64),
     ("AVX", features::AVX as u64),
@@ -52,6 +54,7 @@ const CONSTANTS: [(&str, u64); 14] = [
     ("AVX512F", features::AVX512F as u64),
     ("AVX512VL", features::AVX512VL as u64),
     ("AVX512_VBMI", features::AVX512_VBMI as u64),
+    ("AVX512BW", features::AVX512BW as u64),
     ("FILE_SIZE", limits::FILE_SIZE as u64),
     ("MASK_COUNT", limits::MASK_COUNT as u64),
     ("MAP_SIZE", limits::MAP_SIZE as u64),

@@ -53,11 +53,15 @@ static void decode(void)
 {
     /* vpermilpd ymm17{k3}{z}, ymm9, qword [8 bytes]{1to4} */
     const uint8_t code[] = {0x62, 0xE2, 0xB5, 0xBB, 0x0D, 0x08};
+    /* vpshufb zmm1, zmm2, zmm3 */
+    const uint8_t vpshufb[] = {0x62, 0xF2, 0x6D, 0x48, 0x00, 0xCB};
 
-    print("accepted", tarhuspo_decode(code, sizeof code, 31));
-    print("too short", tarhuspo_decode(code, sizeof code - 1, 31));
-    print("empty", tarhuspo_decode(code, 0, 31));
-    print("features", tarhuspo_decode(code, sizeof code, 32));
+    print("accepted", tarhuspo_decode(code, sizeof code, 63));
+    print("too short", tarhuspo_decode(code, sizeof code - 1, 63));
+    print("empty", tarhuspo_decode(code, 0, 63));
+    print("features", tarhuspo_decode(code, sizeof code, 64));
+    print("vpshufb", tarhuspo_decode(vpshufb, sizeof vpshufb, TARHUSPO_AVX512BW));
+    print("without avx512bw", tarhuspo_decode(vpshufb, sizeof vpshufb, 63 - TARHUSPO_AVX512BW));
 }
 
 static uint8_t file[TARHUSPO_FILE_SIZE];
@@ -73,11 +77,11 @@ static void step(void)
     file[64] = 1;
     file[71] = 1;
     masks[1] = 2;
-    s = tarhuspo_step(code, sizeof code, file, sizeof file, masks, TARHUSPO_MASK_COUNT, 31, memory,
+    s = tarhuspo_step(code, sizeof code, file, sizeof file, masks, TARHUSPO_MASK_COUNT, 63, memory,
                       sizeof memory);
     printf("step: %u %u, bytes %u %u %u %u %u\n", s.status, s.length, file[64], file[68], file[71],
            file[72], file[127]);
-    s = tarhuspo_step(code, sizeof code, file, sizeof file, masks, TARHUSPO_MASK_COUNT, 31, memory,
+    s = tarhuspo_step(code, sizeof code, file, sizeof file, masks, TARHUSPO_MASK_COUNT, 63, memory,
                       sizeof memory - 1);
     printf("refused step: %u %u, bytes %u %u\n", s.status, s.length, file[68], file[71]);
 }
@@ -92,11 +96,11 @@ static void run(void)
 
     for (i = 0; i < sizeof file; i++)
         file[i] = (uint8_t)(i + i / 64);
-    r = tarhuspo_run(list, sizeof list, file, sizeof file, masks, TARHUSPO_MASK_COUNT, 31,
+    r = tarhuspo_run(list, sizeof list, file, sizeof file, masks, TARHUSPO_MASK_COUNT, 63,
                      TARHUSPO_MOST_STEPS);
     printf("run: %" PRIu64 " %" PRIu64 " %u, ", r.steps, r.place, r.status);
     printf("bytes %u %u %u\n", file[64], file[68], file[80]);
-    r = tarhuspo_run(list, sizeof list, file, sizeof file, masks, TARHUSPO_MASK_COUNT, 31,
+    r = tarhuspo_run(list, sizeof list, file, sizeof file, masks, TARHUSPO_MASK_COUNT, 63,
                      UINT64_C(0));
     printf("no budget: %" PRIu64 " %" PRIu64 " %u\n", r.steps, r.place, r.status);
 }
@@ -105,13 +109,13 @@ static uint16_t map[TARHUSPO_MAP_SIZE], second[TARHUSPO_MAP_SIZE], both[TARHUSPO
 
 static void bytemap(void)
 {
-    tarhuspo_built b = tarhuspo_bytemap_build(list, sizeof list - 1, masks, TARHUSPO_MASK_COUNT, 31,
+    tarhuspo_built b = tarhuspo_bytemap_build(list, sizeof list - 1, masks, TARHUSPO_MASK_COUNT, 63,
                                               map, TARHUSPO_MAP_SIZE);
     uint32_t status;
 
     printf("build: %" PRIu64 " %u, ", b.place, b.status);
     printf("entries %u %u %u\n", map[64], map[68], map[80]);
-    b = tarhuspo_bytemap_build(list, sizeof list, masks, TARHUSPO_MASK_COUNT, 31, second,
+    b = tarhuspo_bytemap_build(list, sizeof list, masks, TARHUSPO_MASK_COUNT, 63, second,
                                TARHUSPO_MAP_SIZE);
     printf("refused build: %" PRIu64 " %u, entry %u\n", b.place, b.status, second[64]);
     status = tarhuspo_bytemap_apply(map, TARHUSPO_MAP_SIZE, file, sizeof file);
