@@ -1,6 +1,6 @@
 //! Independent reference for the proved library.
 //!
-//! Written from document 01 and the manual pages alone, so that the answers of the two can be
+//! Written from document 01, request 1 and the manual alone, so that the answers of the two can be
 //! compared. The modules follow the order of document 01. Every function takes buffers of any
 //! length and content; a refusal is a status number and changes no byte.
 
