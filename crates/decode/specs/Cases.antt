@@ -222,9 +222,10 @@ furtherCases =
     ∷ case (0x62 ∷ 0xF1 ∷ 0x7D ∷ 0x48 ∷ 0x70 ∷ 0xCA ∷ 0x1B ∷ []) 4 0 (byImmediate vpshufd Evex Bits512 1 (register 2) 0 false false 0x1B 7)
     ∷ []
 
--- request 1: VUNPCKHPS; VPERMILPS by 1B, which moves as VPSHUFD by 1B; VPSHUFB with either W, with b, and without AVX512BW; VUNPCKLPD with either W
--- under VEX, and by W under EVEX. Then the other lines of the table, with VUNPCKHPD of 512 bits; W, vvvv and EVEX W of VPERMILPS; broadcasts; and
--- VPSHUFB's features: AVX, AVX2 at 256 bits, AVX512BW by itself, and AVX512VL with it
+-- request 1, cases 17 to 30: VUNPCKHPS; VPERMILPS by 1B, which moves as VPSHUFD by 1B; VPSHUFB with either W, with b, and without AVX512BW; VUNPCKLPD
+-- with either W under VEX, and by W under EVEX; VUNPCKHPD; VPERMILPS by a register, and by a broadcast control; VPSHUFB under a mask. Then other widths
+-- and encodings; W, vvvv and EVEX W of VPERMILPS; EVEX W of VUNPCKHPS; broadcasts; and VPSHUFB's features: AVX, AVX2 at 256 bits, AVX512BW by itself,
+-- and AVX512VL with it
 unfoldable pub requestedCases : List Case
 requestedCases =
     moving (0xC5 ∷ 0xE8 ∷ 0x15 ∷ 0xCB ∷ []) 63 (ofThree vunpckhps Vex Bits128 1 2 3 Immediate.Absent 4) (dword 2 2 ++ dword 3 2 ++ dword 2 3 ++ dword 3 3 ++ cleared 48)
@@ -238,6 +239,10 @@ requestedCases =
     ∷ case (0x62 ∷ 0xF1 ∷ 0x6D ∷ 0x48 ∷ 0x14 ∷ 0xCB ∷ []) 63 3 (Refused Unlisted)
     ∷ moving (0x62 ∷ 0xF1 ∷ 0xED ∷ 0x48 ∷ 0x14 ∷ 0xCB ∷ []) 63 (ofThree vunpcklpd Evex Bits512 1 2 3 Immediate.Absent 6)
     (qword 2 0 ++ qword 3 0 ++ qword 2 2 ++ qword 3 2 ++ qword 2 4 ++ qword 3 4 ++ qword 2 6 ++ qword 3 6)
+    ∷ moving (0xC5 ∷ 0xE9 ∷ 0x15 ∷ 0xCB ∷ []) 63 (ofThree vunpckhpd Vex Bits128 1 2 3 Immediate.Absent 4) (qword 2 1 ++ qword 3 1 ++ cleared 48)
+    ∷ case (0x62 ∷ 0xF2 ∷ 0x6D ∷ 0x48 ∷ 0x0C ∷ 0xCB ∷ []) 63 0 (ofThree vpermilpsRegister Evex Bits512 1 2 3 Immediate.Absent 6)
+    ∷ case (0x62 ∷ 0xF2 ∷ 0x6D ∷ 0x58 ∷ 0x0C ∷ 0x08 ∷ []) 63 0 (repeating vpermilpsRegister 1 2 4 6)
+    ∷ case (0x62 ∷ 0xF2 ∷ 0x6D ∷ 0x49 ∷ 0x00 ∷ 0xCB ∷ []) 63 0 (operands vpshufb Evex Bits512 1 (source 2) (register 3) 1 false false Immediate.Absent 6)
     ∷ moving (0x62 ∷ 0xF1 ∷ 0xED ∷ 0x48 ∷ 0x15 ∷ 0xCB ∷ []) 63 (ofThree vunpckhpd Evex Bits512 1 2 3 Immediate.Absent 6)
     (qword 2 1 ++ qword 3 1 ++ qword 2 3 ++ qword 3 3 ++ qword 2 5 ++ qword 3 5 ++ qword 2 7 ++ qword 3 7)
     ∷ case (0xC5 ∷ 0xED ∷ 0x15 ∷ 0xCB ∷ []) 63 0 (ofThree vunpckhpd Vex Bits256 1 2 3 Immediate.Absent 4)
@@ -248,7 +253,6 @@ requestedCases =
     ∷ case (0x62 ∷ 0xF3 ∷ 0xFD ∷ 0x48 ∷ 0x04 ∷ 0xCA ∷ 0x1B ∷ []) 63 3 (Refused Unlisted)
     ∷ case (0x62 ∷ 0xF1 ∷ 0xEC ∷ 0x48 ∷ 0x15 ∷ 0xCB ∷ []) 63 3 (Refused Unlisted)
     ∷ case (0x62 ∷ 0xF3 ∷ 0x7D ∷ 0x58 ∷ 0x04 ∷ 0x08 ∷ 0x1B ∷ []) 63 0 (byImmediate vpermilps Evex Bits512 1 (Third.Memory 4) 0 false true 0x1B 7)
-    ∷ case (0x62 ∷ 0xF2 ∷ 0x6D ∷ 0x58 ∷ 0x0C ∷ 0x08 ∷ []) 63 0 (repeating vpermilpsRegister 1 2 4 6)
     ∷ case (0x62 ∷ 0xF1 ∷ 0x6C ∷ 0x58 ∷ 0x15 ∷ 0x08 ∷ []) 63 0 (repeating vunpckhps 1 2 4 6)
     ∷ case (0x62 ∷ 0xF1 ∷ 0xED ∷ 0x58 ∷ 0x14 ∷ 0x08 ∷ []) 63 0 (repeating vunpcklpd 1 2 8 6)
     ∷ case (0x62 ∷ 0xF1 ∷ 0xED ∷ 0x58 ∷ 0x15 ∷ 0x08 ∷ []) 63 0 (repeating vunpckhpd 1 2 8 6)
