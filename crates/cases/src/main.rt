@@ -1,7 +1,6 @@
 // The worked cases of docs/RULES.md, each decoded and carried out, with the origin of every byte of the destination.
 ghost use Prim.Native.Nat.{_<_, _≤_};
 ghost use lib.ListN.{getD};
-ghost use Rattle.isa.specs.Kinds.{fileSize};
 use decode::instruction::Decoded;
 use isa::features::Features;
 use isa::kinds::Reg;
@@ -10,36 +9,62 @@ use libc::STDOUT_FILENO;
 use seq::byte_at;
 use step::Stepped;
 
-// The number of bytes, and the bytes.
-const CASES: [[u8; 8]; 16] = [
-    [5, 0xC5, 0xF9, 0x70, 0xCA, 0x1B, 0, 0],
-    [4, 0xC5, 0xF9, 0x70, 0xCA, 0, 0, 0],
-    [5, 0xC5, 0xE9, 0x70, 0xCA, 0x1B, 0, 0],
-    [7, 0x62, 0xF1, 0x7D, 0xC9, 0x70, 0xCA, 0x1B],
-    [7, 0x62, 0xF1, 0x7D, 0xC8, 0x70, 0xCA, 0x1B],
-    [7, 0x62, 0xF1, 0x7D, 0x68, 0x70, 0xCA, 0x1B],
-    [7, 0x62, 0xF1, 0x7D, 0x58, 0x70, 0x08, 0x00],
-    [7, 0x62, 0xF1, 0x7D, 0x58, 0x70, 0xCA, 0x1B],
-    [7, 0x62, 0x81, 0x7D, 0x48, 0x70, 0xCA, 0x1B],
-    [6, 0xC4, 0xE3, 0x7D, 0x05, 0xCA, 0x05, 0],
-    [6, 0xC4, 0xE3, 0x69, 0x06, 0xCB, 0x31, 0],
-    [6, 0x62, 0xF2, 0x6D, 0x58, 0x8D, 0x08, 0],
-    [5, 0xC4, 0xE2, 0x69, 0x0D, 0xCB, 0, 0],
-    [4, 0xC5, 0xE8, 0x14, 0xCB, 0, 0, 0],
-    [7, 0xC5, 0xF9, 0x70, 0x44, 0x88, 0x10, 0x1B],
-    [6, 0xC4, 0xE3, 0x6D, 0x06, 0xCB, 0x88, 0],
+// The features, the number of bytes, and the bytes.
+const CASES: [[u8; 9]; 30] = [
+    [31, 5, 0xC5, 0xF9, 0x70, 0xCA, 0x1B, 0, 0],
+    [31, 4, 0xC5, 0xF9, 0x70, 0xCA, 0, 0, 0],
+    [31, 5, 0xC5, 0xE9, 0x70, 0xCA, 0x1B, 0, 0],
+    [31, 7, 0x62, 0xF1, 0x7D, 0xC9, 0x70, 0xCA, 0x1B],
+    [31, 7, 0x62, 0xF1, 0x7D, 0xC8, 0x70, 0xCA, 0x1B],
+    [31, 7, 0x62, 0xF1, 0x7D, 0x68, 0x70, 0xCA, 0x1B],
+    [31, 7, 0x62, 0xF1, 0x7D, 0x58, 0x70, 0x08, 0x00],
+    [31, 7, 0x62, 0xF1, 0x7D, 0x58, 0x70, 0xCA, 0x1B],
+    [31, 7, 0x62, 0x81, 0x7D, 0x48, 0x70, 0xCA, 0x1B],
+    [31, 6, 0xC4, 0xE3, 0x7D, 0x05, 0xCA, 0x05, 0],
+    [31, 6, 0xC4, 0xE3, 0x69, 0x06, 0xCB, 0x31, 0],
+    [31, 6, 0x62, 0xF2, 0x6D, 0x58, 0x8D, 0x08, 0],
+    [31, 5, 0xC4, 0xE2, 0x69, 0x0D, 0xCB, 0, 0],
+    [31, 4, 0xC5, 0xE8, 0x14, 0xCB, 0, 0, 0],
+    [31, 7, 0xC5, 0xF9, 0x70, 0x44, 0x88, 0x10, 0x1B],
+    [31, 6, 0xC4, 0xE3, 0x6D, 0x06, 0xCB, 0x88, 0],
+    [63, 4, 0xC5, 0xE8, 0x15, 0xCB, 0, 0, 0],
+    [63, 6, 0xC4, 0xE3, 0x79, 0x04, 0xCA, 0x1B, 0],
+    [63, 6, 0x62, 0xF2, 0x6D, 0x48, 0x00, 0xCB, 0],
+    [63, 6, 0x62, 0xF2, 0xED, 0x48, 0x00, 0xCB, 0],
+    [63, 6, 0x62, 0xF2, 0x6D, 0x58, 0x00, 0x08, 0],
+    [31, 6, 0x62, 0xF2, 0x6D, 0x48, 0x00, 0xCB, 0],
+    [63, 4, 0xC5, 0xE9, 0x14, 0xCB, 0, 0, 0],
+    [63, 5, 0xC4, 0xE1, 0xE9, 0x14, 0xCB, 0, 0],
+    [63, 6, 0x62, 0xF1, 0x6D, 0x48, 0x14, 0xCB, 0],
+    [63, 6, 0x62, 0xF1, 0xED, 0x48, 0x14, 0xCB, 0],
+    [63, 4, 0xC5, 0xE9, 0x15, 0xCB, 0, 0, 0],
+    [63, 6, 0x62, 0xF2, 0x6D, 0x48, 0x0C, 0xCB, 0],
+    [63, 6, 0x62, 0xF2, 0x6D, 0x58, 0x0C, 0x08, 0],
+    [63, 6, 0x62, 0xF2, 0x6D, 0x49, 0x00, 0xCB, 0],
 ];
 
 const MASKS: [u64; 8] = [0, 0x5555, 0x2222, 0x3333, 0x4444, 0x6666, 0x7777, 0x8888];
-// The row whose control is in register 3. That register's low lane is the file's lane 12, and for a second run it gets
-// quadwords 2 and 1.
-const CONTROLLED: usize = 12;
 
-const CONTROL_LANE: u16 = 12;
+const LANE_BYTES: usize = 16;
 
-const CONTROL: [u8; 16] = [2, 0, 0, 0, 0, 0, 0, 0, 1, 0, 0, 0, 0, 0, 0, 0];
+// Controls for a lane. Of a quadword bit 1 counts: 2 takes the high one, 1 the low one.
+const QWORDS_2_1: [u8; LANE_BYTES] = [2, 0, 0, 0, 0, 0, 0, 0, 1, 0, 0, 0, 0, 0, 0, 0];
+
+// 80 and FF clear; the others take byte 0 or byte 15.
+const BYTE_CONTROLS: [u8; LANE_BYTES] =
+    *b"\x00\x0F\x10\x7F\x80\xFF\x00\x0F\x10\x7F\x80\xFF\x00\x0F\x10\x7F";
+
+// Of a doubleword bits 1:0 count.
+const DWORDS_3210: [u8; LANE_BYTES] = [3, 0, 0, 0, 2, 0, 0, 0, 1, 0, 0, 0, 0, 0, 0, 0];
+
+const DWORDS_6745: [u8; LANE_BYTES] = [6, 0, 0, 0, 7, 0, 0, 0, 4, 0, 0, 0, 5, 0, 0, 0];
 
 const REGISTER_BYTES: usize = Reg::BYTES as usize;
+
+// Register 3, where a control stands that is not in memory.
+const CONTROL_START: usize = 3 * REGISTER_BYTES;
+
+const CONTROL_END: usize = CONTROL_START + REGISTER_BYTES;
 
 const MEMORY_START: u16 = 3001;
 
@@ -60,32 +85,33 @@ fn half_of(number: u16, half: Half) -> u8 {
     }
 }
 
-// The byte at offset p: half of the number p + 1, or a byte of the control.
-fn file_byte(p: u16, half: Half, controlled: bool) -> u8
-    requires { ⌜ p < fileSize ⌝ }
-{
-    if controlled {
-        if p / 16 == CONTROL_LANE {
-            return CONTROL[p as usize % 16];
-        }
+// Every lane becomes the control. An empty one changes nothing.
+fn set_lanes(bytes: &mut [u8], control: &[u8]) {
+    if control.len() == 0 {
+        return;
     }
-    half_of(p + 1, half)
+    for i in 0..bytes.len() {
+        bytes[i] = byte_at(control, i % LANE_BYTES);
+    }
 }
 
-fn register_file(half: Half, controlled: bool) -> [u8; RegisterFile::SIZE] {
+// Byte p is half of the number p + 1, but in register 3 the control's if there is one.
+fn register_file(half: Half, control: &[u8]) -> [u8; RegisterFile::SIZE] {
     let mut file = [0u8; RegisterFile::SIZE];
     for p in 0..RegisterFile::SIZE {
-        file[p] = file_byte(p as u16, half, controlled);
+        file[p] = half_of(p as u16 + 1, half);
     }
+    set_lanes(&mut file[CONTROL_START..CONTROL_END], control);
     file
 }
 
-// As many bytes as a u8 can want. Byte j is half of the number 3001 + j.
-fn memory(half: Half) -> [u8; 255] {
+// As many bytes as a u8 can want. Byte j is half of the number 3001 + j, or the control's if there is one.
+fn memory(half: Half, control: &[u8]) -> [u8; 255] {
     let mut bytes = [0u8; 255];
     for j in 0..255 {
         bytes[j] = half_of(MEMORY_START + j as u16, half);
     }
+    set_lanes(&mut bytes, control);
     bytes
 }
 
@@ -119,17 +145,18 @@ fn summary_of(decoded: Decoded) -> Summary {
     }
 }
 
-fn step_on(code: &[u8], file: &mut [u8], half: Half, wanted: u8) -> Stepped {
+fn step_on(
+    code: &[u8],
+    features: Features,
+    file: &mut [u8],
+    half: Half,
+    control: &[u8],
+    wanted: u8,
+) -> Stepped {
     let masks = MASKS;
-    let bytes = memory(half);
+    let bytes = memory(half, control);
     let end = wanted as usize;
-    step::step(
-        code,
-        file,
-        &masks,
-        Features(Features::LIMIT),
-        &bytes[0..end],
-    )
+    step::step(code, file, &masks, features, &bytes[0..end])
 }
 
 // The number that the two files' bytes at p make.
@@ -168,9 +195,6 @@ fn print_masks() {
 }
 
 fn print_head() {
-    print(b"features: ");
-    print_number(Features::LIMIT as u64);
-    print(b"\n");
     print_masks();
     print(b"files: byte p is (p + 1) % 256 in the low file and (p + 1) / 256 in the high file\n");
     print(
@@ -184,14 +208,11 @@ fn print_head() {
     );
 }
 
-fn print_code(code: &[u8]) {
-    for i in 0..code.len() {
-        if i > 0 {
-            print(b" ");
-        }
-        io::print_hex(STDOUT_FILENO, byte_at(code, i) as u64, 2);
+fn print_bytes(bytes: &[u8]) {
+    for i in 0..bytes.len() {
+        print(b" ");
+        io::print_hex(STDOUT_FILENO, byte_at(bytes, i) as u64, 2);
     }
-    print(b"\n");
 }
 
 fn print_answer(answer: u32, length: usize) {
@@ -243,11 +264,18 @@ fn print_digests(before: u64, after: u64) {
 }
 
 // Carries out the step on both files, and shows the answers.
-fn step_both(code: &[u8], low: &mut [u8], high: &mut [u8], wanted: u8) {
+fn step_both(
+    code: &[u8],
+    features: Features,
+    low: &mut [u8],
+    high: &mut [u8],
+    control: &[u8],
+    wanted: u8,
+) {
     print(b"step, low file: ");
-    print_stepped(step_on(code, low, Half::Low, wanted));
+    print_stepped(step_on(code, features, low, Half::Low, control, wanted));
     print(b"step, high file: ");
-    print_stepped(step_on(code, high, Half::High, wanted));
+    print_stepped(step_on(code, features, high, Half::High, control, wanted));
 }
 
 // The destination, and which registers the digests are of.
@@ -261,43 +289,64 @@ fn print_contents(low: &[u8], high: &[u8], destination: u8) {
     print(b" registers");
 }
 
-fn run(code: &[u8], controlled: bool) {
-    let mut low = register_file(Half::Low, controlled);
-    let mut high = register_file(Half::High, controlled);
-    print_code(code);
-    let s = summary_of(decode::decode(code, Features(Features::LIMIT)));
+fn run(code: &[u8], features: Features, control: &[u8]) {
+    let mut low = register_file(Half::Low, control);
+    let mut high = register_file(Half::High, control);
+    let s = summary_of(decode::decode(code, features));
     print_summary(s);
     let before = digest(&low, &high, s.destination);
-    step_both(code, &mut low, &mut high, s.wanted);
+    step_both(code, features, &mut low, &mut high, control, s.wanted);
     print_contents(&low, &high, s.destination);
     print_digests(before, digest(&low, &high, s.destination));
 }
 
-fn row(i: usize) -> [u8; 8]
-    requires { ⌜ i < 16 ⌝ }
-    ensures { λ r. ⌜ getD r 0 0 ≤ 7 ⌝ }
+fn row(i: usize) -> [u8; 9]
+    requires { ⌜ i < 30 ⌝ }
+    ensures { λ r. ⌜ getD r 1 0 ≤ 7 ⌝ }
 {
     CASES[i]
 }
 
-fn run_case(i: usize, controlled: bool)
-    requires { ⌜ i < 16 ⌝ }
-{
+fn print_title(number: usize, features: u8, control: &[u8]) {
     print(b"\ncase ");
-    print_number(i as u64 + 1);
-    if controlled {
-        print(b", with the quadwords of register 3 set to 2 and 1 in both files");
+    print_number(number as u64);
+    print(b" with features ");
+    print_number(features as u64);
+    if control.len() > 0 {
+        print(b", every lane of register 3 and of memory");
+        print_bytes(control);
     }
-    print(b": ");
-    let case = row(i);
-    let end = 1 + case[0] as usize;
-    run(&case[1..end], controlled);
+    print(b":");
+}
+
+// An empty control is none.
+fn run_case(number: usize, control: &[u8])
+    requires { ⌜ (1 ≤ number) × (number ≤ 30) ⌝ }
+{
+    let case = row(number - 1);
+    let features = case[0];
+    let end = 2 + case[1] as usize;
+    print_title(number, features, control);
+    print_bytes(&case[2..end]);
+    print(b"\n");
+    run(&case[2..end], Features(features as u32), control);
+}
+
+// Bytes that name their places are poor controls, so that these cases run once more with others.
+fn run_controlled() {
+    run_case(13, &QWORDS_2_1);
+    run_case(19, &BYTE_CONTROLS);
+    run_case(28, &DWORDS_3210);
+    run_case(28, &DWORDS_6745);
+    run_case(29, &DWORDS_3210);
+    run_case(29, &DWORDS_6745);
+    run_case(30, &BYTE_CONTROLS);
 }
 
 fn main() {
     print_head();
     for i in 0..CASES.len() {
-        run_case(i, false);
+        run_case(i + 1, b"");
     }
-    run_case(CONTROLLED, true);
+    run_controlled();
 }

@@ -4,10 +4,10 @@ use Rattle.cases.proofs.main.Statement.{statement}
 use Rattle.cases.proofs.main.Tie as tie
 
 abbrev Inv-loop : tie.InvT-loop
-Inv-loop i₀ i = i ≤ 16
+Inv-loop i₀ t2 i = i ≤ 30
 
 abbrev μ-loop : tie.MeasureT-loop
-μ-loop i₀ i = 16 - i
+μ-loop i₀ t2 i = 30 - i
 
 pub main-spec : {M : Type 1} → statement M
 main-spec =
@@ -16,6 +16,8 @@ main-spec =
     Inv-loop
     μ-loop
     (λ c κs. search needs)
+    (λ c. search needs)
+    (λ c. search needs)
     (λ c. search needs)
     (λ c κs. search needs)
     (λ c. search needs)

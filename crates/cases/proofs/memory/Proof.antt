@@ -1,13 +1,15 @@
 use Prim.Native.Nat.{_-_, _≤_}
+use mathlib.Core.Path.{_≡_}
+use lib.ListN.{length}
 use borrow.Author.Needs.{needs}
 use Rattle.cases.proofs.memory.Statement.{statement}
 use Rattle.cases.proofs.memory.Tie as tie
 
 abbrev Inv-loop : tie.InvT-loop
-Inv-loop half bytes₀ j₀ bytes j = j ≤ 255
+Inv-loop half control bytes₀ j₀ bytes j = (j ≤ 255) × (length bytes ≡ 255)
 
 abbrev μ-loop : tie.MeasureT-loop
-μ-loop half bytes₀ j₀ bytes j = 255 - j
+μ-loop half control bytes₀ j₀ bytes j = 255 - j
 
 pub memory-spec : {M : Type 1} → statement M
 memory-spec =
@@ -23,4 +25,6 @@ memory-spec =
     (λ c. search needs)
     (λ c. search needs)
     (λ c. search needs)
+    (λ c. search needs)
+    (λ c κs. search needs)
     (λ c. search needs))

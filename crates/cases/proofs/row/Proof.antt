@@ -7,19 +7,19 @@ use lib.ListN.{getD}
 use Rattle.cases.proofs.row.Statement.{statement}
 use Rattle.cases.proofs.row.Tie as tie
 
--- each row's first number is at most 7: one test over the table
+-- each row's second number is at most 7: one test over the table
 abbrev Short : List (List ℕ) → Type 0
 Short [] = Unit
-Short (r ∷ rs) = when (leb (getD r 0 0) 7) (Short rs)
+Short (r ∷ rs) = when (leb (getD r 1 0) 7) (Short rs)
 
 passed : (b : Bool) (X : Type 0) → when b X → T b × X
 passed true X w = (tt, w)
 passed false X w = absurd w
 
-at : (t : List (List ℕ)) → Short t → (i : ℕ) → getD (getD t i []) 0 0 ≤ 7
+at : (t : List (List ℕ)) → Short t → (i : ℕ) → getD (getD t i []) 1 0 ≤ 7
 at [] s i = zero-le
-at (r ∷ rs) s zero = leb→le (getD r 0 0) 7 (passed (leb (getD r 0 0) 7) (Short rs) s .0)
-at (r ∷ rs) s (suc i) = at rs (passed (leb (getD r 0 0) 7) (Short rs) s .1) i
+at (r ∷ rs) s zero = leb→le (getD r 1 0) 7 (passed (leb (getD r 1 0) 7) (Short rs) s .0)
+at (r ∷ rs) s (suc i) = at rs (passed (leb (getD r 1 0) 7) (Short rs) s .1) i
 
 pub row-spec : {M : Type 1} → statement M
 row-spec = tie.close (tie.spec (λ c. search needs) (λ c. search needs) (λ c. search (needs, at) depth 12))

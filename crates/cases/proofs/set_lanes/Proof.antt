@@ -1,16 +1,18 @@
 use Prim.Native.Nat.{_-_, _≤_}
+use mathlib.Core.Path.{_≡_}
+use lib.ListN.{length}
 use borrow.Author.Needs.{needs}
-use Rattle.cases.proofs.print_code.Statement.{statement}
-use Rattle.cases.proofs.print_code.Tie as tie
+use Rattle.cases.proofs.set_lanes.Statement.{statement}
+use Rattle.cases.proofs.set_lanes.Tie as tie
 
 abbrev Inv-loop : tie.InvT-loop
-Inv-loop code i₀ t3 t4 i-end i = i ≤ i-end
+Inv-loop bytes₀ control i₀ i-end bytes i = (i ≤ i-end) × (length bytes ≡ i-end)
 
 abbrev μ-loop : tie.MeasureT-loop
-μ-loop code i₀ t3 t4 i-end i = i-end - i
+μ-loop bytes₀ control i₀ i-end bytes i = i-end - i
 
-pub print-code-spec : {M : Type 1} → statement M
-print-code-spec =
+pub set-lanes-spec : {M : Type 1} → statement M
+set-lanes-spec =
     tie.close
     (tie.spec
     Inv-loop
@@ -18,12 +20,9 @@ print-code-spec =
     (λ c. search needs)
     (λ c. search needs)
     (λ c κs. search needs)
-    (λ c κs. search needs)
-    (λ c. search needs)
-    (λ c κs. search needs)
     (λ c. search needs)
     (λ c. search needs)
     (λ c. search needs)
     (λ c. search needs)
-    (λ c κs. search needs)
+    (λ c. search needs)
     (λ c. search needs))
