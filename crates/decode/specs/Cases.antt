@@ -35,7 +35,6 @@ use Rattle.decode.specs.Decode.{finishOf, onTotal, onRow, onHead, knownO
 use Rattle.decode.specs.declared.instruction.First.{First}
 use Rattle.decode.specs.declared.instruction.Third.{Third}
 use Rattle.decode.specs.declared.instruction.Immediate.{Immediate}
-use Rattle.decode.specs.declared.instruction.Instruction.{Instruction}
 use Rattle.decode.specs.declared.instruction.Decoded.{Decoded}
 use Rattle.decode.specs.declared.instruction.Decoded.the-variants.{Accepted, Refused}
 
@@ -181,7 +180,7 @@ starredCases =
 -- cases 13 to 16, VPERM2F128 by 21, and a destination that is its own source; R, B, X and V' in registers; the forms of displacement; an opcode
 -- in another map, and a broadcast quadword; then, in the order of rule 5.3: features over the limit and at it; fixed bits before an unknown opcode; EVEX with
 -- another W, and with its own; short bytes before a wrong width and before a missing feature; W, V' and vvvv; a wrong field before a missing feature;
--- the feature of a row, and the one that is not asked for besides; AVX512VL; each feature's bit by itself
+-- the feature of a row, and the one that is not asked for besides; AVX512VL; each feature's bit by itself; and EVEX VUNPCKLPS, the one row of document 01's that no case above has
 unfoldable pub furtherCases : List Case
 furtherCases =
     case (0xC4 ∷ 0xE2 ∷ 0x69 ∷ 0x0D ∷ 0xCB ∷ []) 31 0 (ofThree vpermilpdRegister Vex Bits128 1 2 3 Immediate.Absent 5)
@@ -220,12 +219,13 @@ furtherCases =
     ∷ case (0x62 ∷ 0xF2 ∷ 0x6D ∷ 0x28 ∷ 0x8D ∷ 0xCB ∷ []) 24 0 (ofThree vpermb Evex Bits256 1 2 3 Immediate.Absent 6)
     ∷ case (0xC5 ∷ 0xF9 ∷ 0x70 ∷ 0xCA ∷ 0x1B ∷ []) 1 0 (byImmediate vpshufd Vex Bits128 1 (register 2) 0 false false 0x1B 5)
     ∷ case (0x62 ∷ 0xF1 ∷ 0x7D ∷ 0x48 ∷ 0x70 ∷ 0xCA ∷ 0x1B ∷ []) 4 0 (byImmediate vpshufd Evex Bits512 1 (register 2) 0 false false 0x1B 7)
+    ∷ case (0x62 ∷ 0xF1 ∷ 0x6C ∷ 0x48 ∷ 0x14 ∷ 0xCB ∷ []) 31 0 (ofThree vunpcklps Evex Bits512 1 2 3 Immediate.Absent 6)
     ∷ []
 
 -- request 1, cases 17 to 30: VUNPCKHPS; VPERMILPS by 1B, which moves as VPSHUFD by 1B; VPSHUFB with either W, with b, and without AVX512BW; VUNPCKLPD
 -- with either W under VEX, and by W under EVEX; VUNPCKHPD; VPERMILPS by a register, and by a broadcast control; VPSHUFB under a mask. Then other widths
 -- and encodings; W, vvvv and EVEX W of VPERMILPS; EVEX W of VUNPCKHPS; broadcasts; and VPSHUFB's features: AVX, AVX2 at 256 bits, AVX512BW by itself,
--- and AVX512VL with it
+-- and AVX512VL with it at 128 and 256 bits
 unfoldable pub requestedCases : List Case
 requestedCases =
     moving (0xC5 ∷ 0xE8 ∷ 0x15 ∷ 0xCB ∷ []) 63 (ofThree vunpckhps Vex Bits128 1 2 3 Immediate.Absent 4) (dword 2 2 ++ dword 3 2 ++ dword 2 3 ++ dword 3 3 ++ cleared 48)
@@ -260,6 +260,8 @@ requestedCases =
     ∷ case (0xC4 ∷ 0xE2 ∷ 0x6D ∷ 0x00 ∷ 0xCB ∷ []) 1 5 (Refused Feature)
     ∷ case (0xC4 ∷ 0xE2 ∷ 0x6D ∷ 0x00 ∷ 0xCB ∷ []) 2 0 (ofThree vpshufb Vex Bits256 1 2 3 Immediate.Absent 5)
     ∷ case (0x62 ∷ 0xF2 ∷ 0x6D ∷ 0x48 ∷ 0x00 ∷ 0xCB ∷ []) 32 0 (ofThree vpshufb Evex Bits512 1 2 3 Immediate.Absent 6)
+    ∷ case (0x62 ∷ 0xF2 ∷ 0x6D ∷ 0x08 ∷ 0x00 ∷ 0xCB ∷ []) 32 5 (Refused Feature)
+    ∷ case (0x62 ∷ 0xF2 ∷ 0x6D ∷ 0x08 ∷ 0x00 ∷ 0xCB ∷ []) 40 0 (ofThree vpshufb Evex Bits128 1 2 3 Immediate.Absent 6)
     ∷ case (0x62 ∷ 0xF2 ∷ 0x6D ∷ 0x28 ∷ 0x00 ∷ 0xCB ∷ []) 32 5 (Refused Feature)
     ∷ case (0x62 ∷ 0xF2 ∷ 0x6D ∷ 0x28 ∷ 0x00 ∷ 0xCB ∷ []) 40 0 (ofThree vpshufb Evex Bits256 1 2 3 Immediate.Absent 6)
     ∷ []

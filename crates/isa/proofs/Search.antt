@@ -6,6 +6,7 @@ use mathlib.Core.List.{List}
 use native.Mathlib.Numerals.{add-one}
 use lib.ListN.{length, getD, drop, drop-of-length-le}
 use lib.Seq.{drop-cons}
+use borrow.Author.Tests.{ne-eqb}
 use Rattle.isa.specs.Table.{findIn, matchesRow, blank}
 use Rattle.isa.specs.declared.table.Row.{Row}
 use Rattle.isa.specs.declared.table.Key.{Key}
@@ -23,3 +24,7 @@ module _ (l : List Row) (key : Key) (i : ℕ) (inv : findIn l key ≡ findIn (dr
   pub none-left : length l ≤ i → Found.Nothing ≡ findIn l key
   unfolding findIn
   none-left h = sym (inv ∙ rw (drop-of-length-le l h))
+
+pub other-opcode : (row : Row) (key : Key) → (row .opcode ≡ key .opcode → ⊥) → matchesRow row key ≡ false
+unfolding matchesRow
+other-opcode row key d = rw (ne-eqb (row .opcode) (key .opcode) d)

@@ -1,15 +1,15 @@
 -- Rules 3.5 to 3.7, 4.5 to 4.7, 4.9, 4.17 and 5.7, and the W of table 3.1, said of the whole table: each is a test of a row, and every row passes it.
--- And rule 1.6.
-use Prim.Native.Nat.{ℕ, _*_, _/_, _^_}
+-- And rules 1.6, 3.1 and 3.2 by numbers.
+use Prim.Native.Nat.{_*_, _/_, _^_}
 use mathlib.Core.Path.{_≡_, refl}
 use mathlib.Core.Bool.{Bool, true, not}
 use mathlib.Core.List.{List, [], _∷_, map}
 use lib.Dec.{eqb}
-use lib.ListN.{replicate}
+use lib.ListN.{length, replicate}
 use Rattle.seq.specs.Choice.{if_then_else_, both, either}
 use Rattle.isa.specs.Features.{AVX, AVX2, AVX512F, AVX512VL, AVX512VBMI, AVX512BW, allFeatures, hasFeature}
 use Rattle.isa.specs.Operands.{mnemonicNumber, vpermilpd, vpermb, vpshufd, vperm2f128, vpermilps, vunpckhps, vunpckhpd, vpshufb, underVex, underEvex, widthOf, widthBytes, halfNumber, controlNumber}
-use Rattle.isa.specs.Table.{W0, W1, anyW, from128, from256, rows}
+use Rattle.isa.specs.Table.{W0, W1, anyW, from128, from256, table, rows}
 use Rattle.isa.specs.declared.operands.Mnemonic.{Mnemonic}
 use Rattle.isa.specs.declared.operands.Half.{Half}
 use Rattle.isa.specs.declared.operands.Control.{Control}
@@ -90,6 +90,11 @@ facts row =
 pub every-row : every facts rows ≡ true
 unfolding rows widthOf
 every-row = refl
+
+-- rules 3.1 and 3.2: as many lines and rows as there are; each row is in a worked case
+pub row-count : (length table ≡ 12) × (length rows ≡ 22)
+unfolding rows
+row-count = (refl, refl)
 
 -- rule 1.6: the feature limit has the bit of every feature, and no other bit
 pub every-feature : (map (hasFeature allFeatures) (AVX ∷ AVX2 ∷ AVX512F ∷ AVX512VL ∷ AVX512VBMI ∷ AVX512BW ∷ []) ≡ replicate 6 true) × (allFeatures / 2 ^ 6 ≡ 0)

@@ -2,8 +2,7 @@
 ghost use mathlib.Core.Path.{_≡_};
 ghost use Prim.Native.Nat.{_<_};
 ghost use lib.ListN.{length, getD};
-ghost use Rattle.isa.specs.Table.{rows, blank, matchesW, findIn};
-ghost use Rattle.isa.specs.Inner.{rowKey, packedKey, InBytes};
+ghost use Rattle.isa.specs.Table.{rows, blank, matchesW, matchesRow, findIn};
 use crate::features::Features;
 use crate::operands::Control;
 use crate::operands::Encoding;
@@ -80,6 +79,10 @@ const VUNPCKHPD: u8 = Mnemonic::VUNPCKHPD;
 
 const VPSHUFB: u8 = Mnemonic::VPSHUFB;
 
+const VEX: u8 = Encoding::VEX;
+
+const EVEX: u8 = Encoding::EVEX;
+
 const W0: u8 = 0;
 
 const W1: u8 = 1;
@@ -127,116 +130,62 @@ const HALF: u8 = Move::HALVES;
 
 const ZERO: u8 = Move::LANE_OR_ZERO;
 
-const LZERO: u8 = Move::IN_LANE_OR_ZERO;
+const LANEZ: u8 = Move::IN_LANE_OR_ZERO;
 
 // The half.
 const LO: u8 = Half::LOW;
 
 const HI: u8 = Half::HIGH;
 
-// The rows' keys, in the manual's notation: encoding, pp and map, a byte each, and the opcode.
-const VEX: u32 = 0x100_0000 * Encoding::VEX as u32;
-
-const EVEX: u32 = 0x100_0000 * Encoding::EVEX as u32;
-
-const VEX_0F: u32 = VEX + 0x00_01_00;
-
-const VEX_66_0F: u32 = VEX + 0x01_01_00;
-
-const VEX_66_0F38: u32 = VEX + 0x01_02_00;
-
-const VEX_66_0F3A: u32 = VEX + 0x01_03_00;
-
-const EVEX_0F: u32 = EVEX + 0x00_01_00;
-
-const EVEX_66_0F: u32 = EVEX + 0x01_01_00;
-
-const EVEX_66_0F38: u32 = EVEX + 0x01_02_00;
-
-const EVEX_66_0F3A: u32 = EVEX + 0x01_03_00;
-
-const KEYS: [u32; 22] = [
-    VEX_66_0F3A + 0x05,
-    EVEX_66_0F3A + 0x05,
-    VEX_66_0F38 + 0x0D,
-    EVEX_66_0F38 + 0x0D,
-    EVEX_66_0F38 + 0x8D,
-    VEX_0F + 0x14,
-    EVEX_0F + 0x14,
-    VEX_66_0F + 0x70,
-    EVEX_66_0F + 0x70,
-    VEX_66_0F3A + 0x06,
-    VEX_66_0F3A + 0x04,
-    EVEX_66_0F3A + 0x04,
-    VEX_66_0F38 + 0x0C,
-    EVEX_66_0F38 + 0x0C,
-    VEX_0F + 0x15,
-    EVEX_0F + 0x15,
-    VEX_66_0F + 0x14,
-    EVEX_66_0F + 0x14,
-    VEX_66_0F + 0x15,
-    EVEX_66_0F + 0x15,
-    VEX_66_0F38 + 0x00,
-    EVEX_66_0F38 + 0x00,
+// Mnemonic, encoding, pp, map, opcode, W, least width, operands, element bytes, features, move, its bits.
+const ROWS: [[u8; 12]; 22] = [
+    [VPERMILPD, VEX, 1, 3, 0x05, W0, XMM, RMI, 8, AVX, DIGIT, 1],
+    [VPERMILPD, EVEX, 1, 3, 0x05, W1, XMM, RMI, B8, F, DIGIT, 1],
+    [VPERMILPD, VEX, 1, 2, 0x0D, W0, XMM, RVC, 8, AVX, LANE, 1],
+    [VPERMILPD, EVEX, 1, 2, 0x0D, W1, XMM, RVC, B8, F, LANE, 1],
+    [VPERMB, EVEX, 1, 2, 0x8D, W0, XMM, RCM, 1, VBMI, ANY, 0],
+    [VUNPCKLPS, VEX, 0, 1, 0x14, WIG, XMM, RVM, 4, AVX, HALF, LO],
+    [VUNPCKLPS, EVEX, 0, 1, 0x14, W0, XMM, RVM, B4, F, HALF, LO],
+    [VPSHUFD, VEX, 1, 1, 0x70, WIG, XMM, RMI, 4, AVX2, DIGIT, 2],
+    [VPSHUFD, EVEX, 1, 1, 0x70, W0, XMM, RMI, B4, F, DIGIT, 2],
+    [VPERM2F128, VEX, 1, 3, 0x06, W0, YMM, RVMI, 16, AVX, ZERO, 0],
+    [VPERMILPS, VEX, 1, 3, 0x04, W0, XMM, RMI, 4, AVX, DIGIT, 2],
+    [VPERMILPS, EVEX, 1, 3, 0x04, W0, XMM, RMI, B4, F, DIGIT, 2],
+    [VPERMILPS, VEX, 1, 2, 0x0C, W0, XMM, RVC, 4, AVX, LANE, 0],
+    [VPERMILPS, EVEX, 1, 2, 0x0C, W0, XMM, RVC, B4, F, LANE, 0],
+    [VUNPCKHPS, VEX, 0, 1, 0x15, WIG, XMM, RVM, 4, AVX, HALF, HI],
+    [VUNPCKHPS, EVEX, 0, 1, 0x15, W0, XMM, RVM, B4, F, HALF, HI],
+    [VUNPCKLPD, VEX, 1, 1, 0x14, WIG, XMM, RVM, 8, AVX, HALF, LO],
+    [VUNPCKLPD, EVEX, 1, 1, 0x14, W1, XMM, RVM, B8, F, HALF, LO],
+    [VUNPCKHPD, VEX, 1, 1, 0x15, WIG, XMM, RVM, 8, AVX, HALF, HI],
+    [VUNPCKHPD, EVEX, 1, 1, 0x15, W1, XMM, RVM, B8, F, HALF, HI],
+    [VPSHUFB, VEX, 1, 2, 0x00, WIG, XMM, RVC, 1, AVX2, LANEZ, 0],
+    [VPSHUFB, EVEX, 1, 2, 0x00, WIG, XMM, RVC, 1, BW, LANEZ, 0],
 ];
 
-// What else the rows have, in the same order: mnemonic, W, least width, operands, element bytes, features, move, its bits.
-const ROWS: [[u8; 8]; 22] = [
-    [VPERMILPD, W0, XMM, RMI, 8, AVX, DIGIT, 1],
-    [VPERMILPD, W1, XMM, RMI, B8, F, DIGIT, 1],
-    [VPERMILPD, W0, XMM, RVC, 8, AVX, LANE, 1],
-    [VPERMILPD, W1, XMM, RVC, B8, F, LANE, 1],
-    [VPERMB, W0, XMM, RCM, 1, VBMI, ANY, 0],
-    [VUNPCKLPS, WIG, XMM, RVM, 4, AVX, HALF, LO],
-    [VUNPCKLPS, W0, XMM, RVM, B4, F, HALF, LO],
-    [VPSHUFD, WIG, XMM, RMI, 4, AVX2, DIGIT, 2],
-    [VPSHUFD, W0, XMM, RMI, B4, F, DIGIT, 2],
-    [VPERM2F128, W0, YMM, RVMI, 16, AVX, ZERO, 0],
-    [VPERMILPS, W0, XMM, RMI, 4, AVX, DIGIT, 2],
-    [VPERMILPS, W0, XMM, RMI, B4, F, DIGIT, 2],
-    [VPERMILPS, W0, XMM, RVC, 4, AVX, LANE, 0],
-    [VPERMILPS, W0, XMM, RVC, B4, F, LANE, 0],
-    [VUNPCKHPS, WIG, XMM, RVM, 4, AVX, HALF, HI],
-    [VUNPCKHPS, W0, XMM, RVM, B4, F, HALF, HI],
-    [VUNPCKLPD, WIG, XMM, RVM, 8, AVX, HALF, LO],
-    [VUNPCKLPD, W1, XMM, RVM, B8, F, HALF, LO],
-    [VUNPCKHPD, WIG, XMM, RVM, 8, AVX, HALF, HI],
-    [VUNPCKHPD, W1, XMM, RVM, B8, F, HALF, HI],
-    [VPSHUFB, WIG, XMM, RVC, 1, AVX2, LZERO, 0],
-    [VPSHUFB, WIG, XMM, RVC, 1, BW, LZERO, 0],
-];
-
-fn packed(key: Key) -> u32
-    ensures { λ r. ⌜ (r ≡ packedKey key) × InBytes key ⌝ }
-{
-    let prefix = 0x100 * key.encoding as u32 + key.pp as u32;
-    0x10000 * prefix + 0x100 * key.map as u32 + key.opcode as u32
-}
-
-// Row i, whose key is this one but for W.
-fn row_at(i: usize, key: Key) -> Row
-    requires { ⌜ (i < length rows) × InBytes key × (rowKey (getD rows i blank) ≡ packedKey key) ⌝ }
+fn row_at(i: usize) -> Row
+    requires { ⌜ i < length rows ⌝ }
     ensures { λ r. ⌜ r ≡ getD rows i blank ⌝ }
 {
     let t = ROWS[i];
     Row {
         mnemonic: t[0],
-        encoding: key.encoding,
-        pp: key.pp,
-        map: key.map,
-        opcode: key.opcode,
-        w: t[1],
-        least: t[2],
-        immediate: t[3] % 2,
-        first: t[3] / 2 % 2,
-        element: t[4] % 32,
-        broadcast: t[4] / 32,
-        needs: t[5] % 8,
-        needs256: t[5] / 8,
-        kind: t[6] % 8,
-        bits: t[7],
-        group: t[6] / 8,
-        control: t[3] / 4,
+        encoding: t[1],
+        pp: t[2],
+        map: t[3],
+        opcode: t[4],
+        w: t[5],
+        least: t[6],
+        immediate: t[7] % 2,
+        first: t[7] / 2 % 2,
+        element: t[8] % 32,
+        broadcast: t[8] / 32,
+        needs: t[9] % 8,
+        needs256: t[9] / 8,
+        kind: t[10] % 8,
+        bits: t[11],
+        group: t[10] / 8,
+        control: t[7] / 4,
     }
 }
 
@@ -244,7 +193,7 @@ fn row_at(i: usize, key: Key) -> Row
 fn matches_w(row: Row, key: Key) -> bool
     ensures { λ r. ⌜ r ≡ matchesW row key ⌝ }
 {
-    if key.encoding == Encoding::VEX {
+    if key.encoding == VEX {
         return true;
     }
     if row.w == WIG {
@@ -253,17 +202,35 @@ fn matches_w(row: Row, key: Key) -> bool
     row.w == key.w
 }
 
-// The first row of the table that has a key. Rows are looked at by their keys alone, a number each.
+fn matches(row: Row, key: Key) -> bool
+    ensures { λ r. ⌜ r ≡ matchesRow row key ⌝ }
+{
+    if row.opcode != key.opcode {
+        return false;
+    }
+    if row.map != key.map {
+        return false;
+    }
+    if row.pp != key.pp {
+        return false;
+    }
+    if row.encoding != key.encoding {
+        return false;
+    }
+    matches_w(row, key)
+}
+
+// The first row of the table that has a key. The table is taken once: where it is indexed as a constant, the compiler writes all
+// of it to the stack each time.
 pub fn find(key: Key) -> Found
     ensures { λ r. ⌜ r ≡ findIn rows key ⌝ }
 {
-    let keys = KEYS;
-    let wanted = packed(key);
+    let table = ROWS;
     let mut i: usize = 0;
-    while i < keys.len() {
-        if keys[i] == wanted {
-            let row = row_at(i, key);
-            if matches_w(row, key) {
+    while i < table.len() {
+        if table[i][4] == key.opcode {
+            let row = row_at(i);
+            if matches(row, key) {
                 return Found::Row(row);
             }
         }

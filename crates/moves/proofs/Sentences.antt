@@ -1,8 +1,7 @@
 -- Rules 4.6 to 4.10 and 4.17 as the manual has them, a sentence for each instruction: its move at its own element's size. And no pick of an accepted
 -- instruction leaves the elements of its sources.
 use Prim.Native.Nat.{ℕ, zero, suc, _+_, _-_, _*_, _/_, _%_, _^_, _<_, _≤_, _∣_}
-use mathlib.Core.Path.{_≡_, refl, sym, _∙_}
-use mathlib.Core.Bool.{Bool}
+use mathlib.Core.Path.{_≡_, refl, _∙_, ap}
 use native.Mathlib.Omega.{arith}
 use native.Mathlib.Nat.{div-add-mod, mod-lt, mod-le, mod-eq-of-lt, mul-add-mod-self-left, div-one, mul-add, mul-comm, mul-one, mul-div-cancel', div-lt-iff-lt-mul, le-div-iff-mul-le, mul-le-mul-left, dvd-of-mul-dvd-mul-left}
 use lib.Dec.{eqb, leb}
@@ -11,7 +10,6 @@ use borrow.Author.Tests.{eq-eqb, ne-eqb}
 use Rattle.seq.specs.Choice.{if_then_else_}
 use Rattle.seq.proofs.Choice.{of-either}
 use Rattle.isa.specs.Operands.{widthBytes, elementBytes, digitBits}
-use Rattle.isa.specs.declared.operands.Width.{Width}
 use Rattle.isa.specs.declared.operands.Width.the-variants.{Bits128}
 use Rattle.isa.specs.declared.operands.Digits.the-variants.{One, Two}
 use Rattle.isa.specs.declared.operands.Half.{Half}
@@ -52,22 +50,23 @@ lane-start : (e l k : ℕ) → k < e → groupStart e (e * l + k) ≡ e * l
 lane-start e l k h = omega (arith, number-in-lane e l k h)
 
 -- by a control in a register: the element of the lane that its bits name
-in-lane-takes : (n v bit c l k : ℕ) → k < perLane n → pickOf (InLane bit) n v c (perLane n * l + k) ≡ First (perLane n * l + c / 2 ^ bit % perLane n)
-unfolding pickOf
-in-lane-takes n v bit c l k h = rw (lane-start (perLane n) l k h)
+in-lane-takes : (n bit c l k : ℕ) → k < perLane n → inLane bit n c (perLane n * l + k) ≡ perLane n * l + c / 2 ^ bit % perLane n
+in-lane-takes n bit c l k h = rw (lane-start (perLane n) l k h)
 
 -- VPERMILPD with a register: by bit 1 of the control
 pub vpermilpd-register-takes : (v c l k : ℕ) → k < 2 → pickOf (InLane 1) 8 v c (2 * l + k) ≡ First (2 * l + c / 2 % 2)
-vpermilpd-register-takes v c = in-lane-takes 8 v 1 c
+unfolding pickOf
+vpermilpd-register-takes v c l k h = ap First (in-lane-takes 8 1 c l k h)
 
 -- VPERMILPS with a register: by bits 1:0
 pub vpermilps-register-takes : (v c l k : ℕ) → k < 4 → pickOf (InLane 0) 4 v c (4 * l + k) ≡ First (4 * l + c % 4)
-vpermilps-register-takes v c l k h = in-lane-takes 4 v 0 c l k h ∙ rw (div-one c)
+unfolding pickOf
+vpermilps-register-takes v c l k h = ap First (in-lane-takes 4 0 c l k h ∙ rw (div-one c))
 
 -- VPSHUFB: by bits 3:0, unless bit 7 clears the byte
 pub vpshufb-takes : (v c l k : ℕ) → k < 16 → c / 128 % 2 ≡ 0 → pickOf InLaneOrZero 1 v c (16 * l + k) ≡ First (16 * l + c % 16)
 unfolding pickOf inLaneOrZero
-vpshufb-takes v c l k h b = rw (ne-eqb (c / 128 % 2) 1 (λ e. omega arith), lane-start 16 l k h, div-one c)
+vpshufb-takes v c l k h b = rw (ne-eqb (c / 128 % 2) 1 (λ e. omega arith)) (ap First (in-lane-takes 1 0 c l k h ∙ rw (div-one c)))
 
 pub vpshufb-clears : (v c j : ℕ) → c / 128 % 2 ≡ 1 → pickOf InLaneOrZero 1 v c j ≡ Zero
 unfolding pickOf inLaneOrZero

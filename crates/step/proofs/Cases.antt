@@ -27,7 +27,7 @@ use Rattle.decode.specs.Cases.{Case, starredCases, furtherCases, requestedCases
 use Rattle.decode.specs.declared.instruction.Instruction.{Instruction}
 use Rattle.decode.specs.declared.instruction.Decoded.{Decoded}
 use Rattle.moves.specs.Pick.{digit, halves, laneOrZero, inLaneOrZero, pickOf}
-use Rattle.moves.specs.Origin.{bitsOf, written, originOf, originBy}
+use Rattle.moves.specs.Origin.{bitsOf, written, originBy}
 use Rattle.moves.specs.Moved.{thirdPart, controlAt, entryOf, moved}
 use Rattle.moves.specs.Mappable.{mappable}
 use Rattle.moves.proofs.Laws.{moved-at, mappable-moves}

@@ -1,6 +1,6 @@
 -- The bytes moved in the worked cases of docs/RULES.md. A case that names places: for every register file and all masks, each of the destination's 64
 -- bytes is the file's byte at the place that the case names, or zero. Then cases on one file: controls in registers and in memory, masks, a broadcast.
-use Prim.Native.Nat.{ℕ, _+_, _*_, _^_, _<_}
+use Prim.Native.Nat.{ℕ, _+_, _*_, _<_}
 use mathlib.Core.Path.{_≡_}
 use mathlib.Core.List.{List, [], _∷_, _++_}
 use lib.Dec.{eqb}

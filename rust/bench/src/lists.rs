@@ -101,12 +101,12 @@ fn print_times(input: &Input) -> Result<[f64; 3], String> {
     Ok(times)
 }
 
-/// Lists of growing length. Only VUNPCKLPS and its like are short enough for 1,024 steps.
+/// Lists of growing length. VUNPCKLPS is short enough for 1,024 steps, as few others are.
 fn inputs() -> Vec<Input> {
     let mut random = Random::new(4);
     let mut inputs = Vec::new();
     for steps in [64, 128, 256, 512, 1_024] {
-        inputs.push(Input::new("vunpcklps", shortest(steps, &mut random)));
+        inputs.push(Input::new("vunpcklps", unpacks(steps, &mut random)));
     }
     let mix = Mix::mappable(features::ALL);
     for steps in [64, 128, 256, 512] {
@@ -115,11 +115,11 @@ fn inputs() -> Vec<Input> {
     inputs
 }
 
-/// Instructions of 4 bytes, with random registers.
-fn shortest(steps: usize, random: &mut Random) -> List {
-    let is_shortest = |shape: &Shape| shape.prefix == Prefix::Vex2 && shape.row.name == "VUNPCKLPS";
+/// VUNPCKLPS in its 4 bytes, with random registers.
+fn unpacks(steps: usize, random: &mut Random) -> List {
+    let is_short = |shape: &Shape| shape.prefix == Prefix::Vex2 && shape.row.name == "VUNPCKLPS";
     let shapes = Shape::all().into_iter().filter(|shape| !shape.memory);
-    let shapes: Vec<_> = shapes.filter(is_shortest).collect();
+    let shapes: Vec<_> = shapes.filter(is_short).collect();
     let mut list = List::default();
     for _ in 0..steps {
         list.push(&random.pick(&shapes).encode(random));

@@ -202,6 +202,8 @@ there, or 2048 for zero.
 build writes the map of a list, apply moves the bytes of a file of registers, and
 compose writes one map for several in the order of applying. show prints what
 moves, in runs such as zmm1[0..3] from zmm2[12..15], and leaves out what stays.
+A list with a memory operand has no map, nor has one with a control in a register:
+VPERMB, VPSHUFB, and VPERMILPD or VPERMILPS without an immediate.
 
   --registers FILE 2,048 bytes, zmm0 first, in each the lowest byte first
   --out FILE       where the map or the registers go; standard output if not

@@ -40,7 +40,7 @@ pub const BUILD_FAULTS: [(Fault, u32); 6] = [
 ];
 
 /// All features, and sets with which some instructions are accepted and others not.
-#[rustfmt::skip] // one feature less in each
+#[rustfmt::skip] // on one line
 pub const FEATURE_SETS: [u32; 9] = [
     ALL, ALL - 32, ALL - 16, ALL - 8, ALL - 4, ALL - 2, ALL - 1, 3, 12,
 ];

@@ -2,9 +2,8 @@
 //!
 //! Bytes of the six new rows answered 3, and now do what [`lane_permutes`] says. Features over 31
 //! answered 1, and up to 63 no longer do. All other bytes are as before: no row of the base needs
-//! feature bit 5, so they are given to today's library with the features below it. That leans on
-//! nothing but answers of the library that the base holds, since most of its inputs have such bytes
-//! and such features alone.
+//! feature bit 5, so they are given to today's library with the features below it. The stored
+//! inputs with such bytes and such features alone, which are most, hold the library to these answers.
 //!
 //! Lists are gone through here, an instruction at a time, as document 01 says it. Without the
 //! request that gives the base's answers, which a test sees on every stored input.

@@ -19,7 +19,7 @@
 pub const AVX: u32 = 1 << 0;
 /// 256-bit VEX integer instructions.
 pub const AVX2: u32 = 1 << 1;
-/// 512-bit EVEX instructions.
+/// EVEX instructions, but for the byte permutes.
 pub const AVX512F: u32 = 1 << 2;
 /// EVEX instructions of 128 and 256 bits.
 pub const AVX512VL: u32 = 1 << 3;

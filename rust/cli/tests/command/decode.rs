@@ -79,9 +79,16 @@ immediate:     none
     assert_eq!(ran, (Some(0), expected.to_string(), String::new()));
 }
 
+/// Each instruction as an assembler would write it.
+fn assert_written(instructions: &[(&str, &str)]) {
+    for &(bytes, expected) in instructions {
+        assert_eq!(instruction(bytes), expected, "{bytes}");
+    }
+}
+
 #[test]
-fn each_instruction_is_written_as_an_assembler_would() {
-    for (bytes, expected) in [
+fn document_01s_instructions_are_written_as_an_assembler_would() {
+    assert_written(&[
         ("C5 F9 70 CA 1B", "vpshufd xmm1, xmm2, 0x1b"),
         (
             "C5 F9 70 44 88 10 1B",
@@ -102,6 +109,12 @@ fn each_instruction_is_written_as_an_assembler_would() {
             "C4 E3 6D 06 08 31",
             "vperm2f128 ymm1, ymm2, ymmword ptr [mem], 0x31",
         ),
+    ]);
+}
+
+#[test]
+fn request_1s_instructions_are_written_as_an_assembler_would() {
+    assert_written(&[
         ("C4 E3 79 04 CA 1B", "vpermilps xmm1, xmm2, 0x1b"),
         (
             "62 F3 7D 58 04 08 1B",
@@ -129,9 +142,7 @@ fn each_instruction_is_written_as_an_assembler_would() {
         ("62 F2 6D 48 00 CB", "vpshufb zmm1, zmm2, zmm3"),
         ("62 F2 ED 48 00 CB", "vpshufb zmm1, zmm2, zmm3"),
         ("62 F2 6D 48 00 08", "vpshufb zmm1, zmm2, zmmword ptr [mem]"),
-    ] {
-        assert_eq!(instruction(bytes), expected, "{bytes}");
-    }
+    ]);
 }
 
 #[test]

@@ -100,11 +100,10 @@ fn rows_of(code: &[u8], most: usize) -> BTreeSet<(u32, u32)> {
 }
 
 fn expect_rows<I>(samples: &Samples<I>, code: fn(&I) -> &[u8], most: usize, least: usize) {
-    for (kind, inputs) in samples {
+    for (kind, inputs) in samples.iter().filter(|(kind, _)| !DAMAGED.contains(kind)) {
         let rows = inputs.iter().flat_map(|input| rows_of(code(input), most));
         let found = rows.collect::<BTreeSet<_>>().len();
-        let expected = if DAMAGED.contains(kind) { 0 } else { least };
-        assert!(found >= expected, "{kind}: {found} rows");
+        assert!(found >= least, "{kind}: {found} rows");
     }
 }
 

@@ -9,6 +9,10 @@ unfolding rows
 row-at-spec =
     tie.close
     (tie.spec
+    (λ c. search (needs, row-is) depth 12)
+    (λ c. search (needs, row-is) depth 12)
+    (λ c. search needs)
+    (λ c. search needs)
     (λ c. search needs)
     (λ c. search needs)
     (λ c. search needs)
