@@ -1,15 +1,11 @@
--- A row as the code keeps it, 12 numbers in a line, and as the definition has it.
-use Prim.Native.Nat.{ℕ, _+_, _*_, _/_, _%_}
-use mathlib.Core.Path.{_≡_, sym}
-use mathlib.Core.List.{List, [], _∷_, map}
+-- A row of the code's table, read, is the definition's.
+use Prim.Native.Nat.{ℕ, _/_, _%_}
+use mathlib.Core.Path.{_≡_, sym, _∙_, ap}
+use mathlib.Core.List.{List, [], map}
 use lib.ListN.{getD, List·getD-map}
 use Rattle.isa.specs.Table.{rows, blank}
+use Rattle.isa.specs.Inner.{columns, grid}
 use Rattle.isa.specs.declared.table.Row.{Row}
-
-abbrev columns : Row → List ℕ
-columns r =
-    r .mnemonic ∷ r .encoding ∷ r .pp ∷ r .map ∷ r .opcode ∷ r .w ∷ r .least ∷ (r .immediate + 2 * r .first + 4 * r .control)
-    ∷ (r .element + 32 * r .broadcast) ∷ (r .needs + 8 * r .needs256) ∷ (r .kind + 8 * r .group) ∷ r .bits ∷ []
 
 abbrev toRow : List ℕ → Row
 toRow t =
@@ -33,6 +29,6 @@ toRow t =
       control = getD t 7 0 / 4;
     }
 
-pub row-is : (i : ℕ) → toRow (getD (map columns rows) i []) ≡ getD rows i blank
-unfolding rows
-row-is i = sym (List·getD-map toRow (map columns rows) i [])
+pub row-is : (i : ℕ) (t : List ℕ) → t ≡ getD grid i [] → toRow t ≡ getD rows i blank
+unfolding rows grid
+row-is i t e = ap toRow e ∙ sym (List·getD-map toRow (map columns rows) i [])

@@ -5,3 +5,4 @@ pub mod Refusal
 pub mod Operands
 pub mod Table
 pub mod Facts
+pub mod Inner

@@ -2,7 +2,9 @@
 ghost use mathlib.Core.Path.{_≡_};
 ghost use Prim.Native.Nat.{_<_};
 ghost use lib.ListN.{length, getD};
+ghost use mathlib.Core.List.{[]};
 ghost use Rattle.isa.specs.Table.{rows, blank, matchesW, matchesRow, findIn};
+ghost use Rattle.isa.specs.Inner.{grid};
 use crate::features::Features;
 use crate::operands::Control;
 use crate::operands::Encoding;
@@ -163,11 +165,14 @@ const ROWS: [[u8; 12]; 22] = [
     [VPSHUFB, EVEX, 1, 2, 0x00, WIG, XMM, RVC, 1, BW, LANEZ, 0],
 ];
 
-fn row_at(i: usize) -> Row
-    requires { ⌜ i < length rows ⌝ }
+// The opcode's column.
+const OPCODE: usize = 4;
+
+// Row i, from its line.
+fn row_of(i: usize, t: [u8; 12]) -> Row
+    requires { ⌜ (i < length rows) × (t ≡ getD grid i []) ⌝ }
     ensures { λ r. ⌜ r ≡ getD rows i blank ⌝ }
 {
-    let t = ROWS[i];
     Row {
         mnemonic: t[0],
         encoding: t[1],
@@ -228,8 +233,8 @@ pub fn find(key: Key) -> Found
     let table = ROWS;
     let mut i: usize = 0;
     while i < table.len() {
-        if table[i][4] == key.opcode {
-            let row = row_at(i);
+        if table[i][OPCODE] == key.opcode {
+            let row = row_of(i, table[i]);
             if matches(row, key) {
                 return Found::Row(row);
             }

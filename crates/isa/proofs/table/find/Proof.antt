@@ -6,6 +6,7 @@ use native.Mathlib.Omega.{arith}
 use borrow.Author.Needs.{needs}
 use lib.ListN.{drop, length, getD}
 use Rattle.isa.specs.Table.{rows, blank, findIn}
+use Rattle.isa.specs.Inner.{grid}
 use Rattle.isa.specs.declared.table.Row.{Row}
 use Rattle.isa.proofs.Grid.{row-is}
 use Rattle.isa.proofs.Search.{here, passed, none-left, other-opcode}
@@ -19,7 +20,7 @@ abbrev μ-loop : tie.MeasureT-loop
 μ-loop key table i₀ i = length rows - i
 
 loop-again : tie.Need-loop-again Inv-loop μ-loop
-unfolding rows
+unfolding rows grid
 loop-again c =
     let t = c .before .before .before in
     let l = t .before in
@@ -27,13 +28,13 @@ loop-again c =
     let on = passed rows _ (l .loop .i) (l .loop .inv .1) in (
       omega (arith, h),
       ⊎-elim
-          (λ w. on (w .1 .result) (w .2 .result) h (w .1 .ensures) (w .2 .ensures) (w .3 .left))
-          (λ w. on (getD rows (l .loop .i) blank) false h refl (sym (other-opcode _ _ (λ e. w .left (ap (λ (r : Row). r .opcode) (row-is (l .loop .i)) ∙ e)))) refl)
+          (λ w. on (w .2 .result) (w .3 .result) h (w .2 .ensures) (w .3 .ensures) (w .4 .left))
+          (λ w. on (getD rows (l .loop .i) blank) false h refl (sym (other-opcode _ _ (λ e. w .left (ap (λ (r : Row). r .opcode) (row-is (l .loop .i) _ refl) ∙ e)))) refl)
           (c .if1 .came),
     )
 
 pub find-spec : {M : Type 1} → statement M
-unfolding rows
+unfolding rows grid
 find-spec =
     tie.close
     (tie.spec
@@ -43,7 +44,9 @@ find-spec =
     (λ c. search needs)
     (λ c. search needs)
     (λ c. search needs)
-    (λ c κs. search needs)
+    (λ c. search needs)
+    (λ c. search needs)
+    (λ c κs. (c .before .before .before .before .loop-test .taken, refl))
     (λ c κs. search needs)
     (λ c. search here)
     (λ c. search needs)

@@ -1,16 +1,12 @@
 use borrow.Author.Needs.{needs}
 use Rattle.isa.proofs.Grid.{row-is}
-use Rattle.isa.specs.Table.{rows}
-use Rattle.isa.proofs.table.row_at.Statement.{statement}
-use Rattle.isa.proofs.table.row_at.Tie as tie
+use Rattle.isa.proofs.table.row_of.Statement.{statement}
+use Rattle.isa.proofs.table.row_of.Tie as tie
 
-pub row-at-spec : {M : Type 1} → statement M
-unfolding rows
-row-at-spec =
+pub row-of-spec : {M : Type 1} → statement M
+row-of-spec =
     tie.close
     (tie.spec
-    (λ c. search (needs, row-is) depth 12)
-    (λ c. search (needs, row-is) depth 12)
     (λ c. search needs)
     (λ c. search needs)
     (λ c. search needs)
@@ -28,4 +24,4 @@ row-at-spec =
     (λ c. search needs)
     (λ c. search needs)
     (λ c. search needs)
-    (λ c. search (needs, row-is) depth 12))
+    (λ c. row-is _ _ (c .pre .1)))
