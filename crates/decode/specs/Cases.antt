@@ -177,10 +177,11 @@ starredCases =
     ∷ case (0x62 ∷ 0xF2 ∷ 0x6D ∷ 0x58 ∷ 0x8D ∷ 0x08 ∷ []) 31 4 (wrong Broadcast)
     ∷ []
 
--- cases 13 to 16, VPERM2F128 by 21, and a destination that is its own source; R, B, X and V' in registers; the forms of displacement; an opcode
--- in another map, and a broadcast quadword; then, in the order of rule 5.3: features over the limit and at it; fixed bits before an unknown opcode; EVEX with
--- another W, and with its own; short bytes before a wrong width and before a missing feature; W, V' and vvvv; a wrong field before a missing feature;
--- the feature of a row, and the one that is not asked for besides; AVX512VL; each feature's bit by itself; and EVEX VUNPCKLPS, the one row of document 01's that no case above has
+-- cases 13 to 16, VPERM2F128 by 21, and a destination that is its own source; R, B, X and V' in registers; the forms of displacement; an opcode in
+-- another map, and a broadcast quadword; then, in the order of rule 5.3: features over the limit and at it; fixed bits before an unknown opcode; EVEX
+-- with another W, and with its own; short bytes before a wrong width and before a missing feature; W, V' and vvvv; a wrong field before a missing
+-- feature; the feature of a row, and the one that is not asked for besides; AVX512VL; each feature's bit by itself; and EVEX VUNPCKLPS, the one row
+-- of document 01's that no case above has
 unfoldable pub furtherCases : List Case
 furtherCases =
     case (0xC4 ∷ 0xE2 ∷ 0x69 ∷ 0x0D ∷ 0xCB ∷ []) 31 0 (ofThree vpermilpdRegister Vex Bits128 1 2 3 Immediate.Absent 5)

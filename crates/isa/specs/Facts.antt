@@ -91,7 +91,7 @@ pub every-row : every facts rows ≡ true
 unfolding rows widthOf
 every-row = refl
 
--- rules 3.1 and 3.2: as many lines and rows as there are; each row is in a worked case
+-- rules 3.1 and 3.2: twelve lines, which give 22 rows. Each row is in a worked case, so that none is missing and none too many
 pub row-count : (length table ≡ 12) × (length rows ≡ 22)
 unfolding rows
 row-count = (refl, refl)

@@ -1,8 +1,7 @@
 // The instruction table (rule 3.1), a decoding row a line, and its search.
 ghost use mathlib.Core.Path.{_≡_};
-ghost use Prim.Native.Nat.{_<_};
-ghost use lib.ListN.{length, getD};
 ghost use mathlib.Core.List.{[]};
+ghost use lib.ListN.{getD};
 ghost use Rattle.isa.specs.Table.{rows, blank, matchesW, matchesRow, findIn};
 ghost use Rattle.isa.specs.Inner.{grid};
 use crate::features::Features;
@@ -170,7 +169,7 @@ const OPCODE: usize = 4;
 
 // Row i, from its line.
 fn row_of(i: usize, t: [u8; 12]) -> Row
-    requires { ⌜ (i < length rows) × (t ≡ getD grid i []) ⌝ }
+    requires { ⌜ t ≡ getD grid i [] ⌝ }
     ensures { λ r. ⌜ r ≡ getD rows i blank ⌝ }
 {
     Row {

@@ -46,7 +46,7 @@ find-spec =
     (λ c. search needs)
     (λ c. search needs)
     (λ c. search needs)
-    (λ c κs. (c .before .before .before .before .loop-test .taken, refl))
+    (λ c κs. refl)
     (λ c κs. search needs)
     (λ c. search here)
     (λ c. search needs)

@@ -24,4 +24,4 @@ row-of-spec =
     (λ c. search needs)
     (λ c. search needs)
     (λ c. search needs)
-    (λ c. row-is _ _ (c .pre .1)))
+    (λ c. row-is _ _ (c .pre)))
