@@ -1,13 +1,15 @@
 -- What each function on moves gives, by what its callees gave: a rule for each way it can return.
 use Prim.Native.Nat.{ℕ, _+_, _-_, _*_, _/_, _%_, _^_, _<_, _≤_}
 use mathlib.Core.Path.{_≡_, _∙_, sym}
-use mathlib.Core.Bool.{Bool, true, false}
+use mathlib.Core.Bool.{Bool}
 use mathlib.Core.List.{List}
 use native.Mathlib.Nat.{div-eq-of-lt, lt-of-lt-of-le, mul-le-mul}
 use native.Mathlib.Omega.{arith}
-use lib.ListN.{length, getD, List·getD-eq-default}
+use lib.Dec.{eqb, leb}
+use lib.ListN.{getD}
 use lib.Pow.{pow-mono}
-use borrow.Author.Tests.{eq-eqb, ne-eqb, le-leb, lt-leb}
+use borrow.Author.Tests.{eq-eqb, ne-eqb}
+use Rattle.seq.specs.Choice.{if_then_else_}
 use Rattle.isa.specs.Kinds.{regOf}
 use Rattle.isa.specs.Operands.{widthBytes, elementBytes, digitBits}
 use Rattle.isa.specs.declared.kinds.Reg.{Reg}
@@ -104,29 +106,13 @@ module _ (moves : Move) (n v c j : ℕ) where
   unfolding pickOf
   picks-in-lane-or-zero q o h = h ∙ rw q
 
--- ---- masks
+-- ---- masks: a definition with what the callees gave in it, from which each way to return follows by its tests (`cases`)
 
-module _ (masks : List ℕ) (k : Mask) (m : ℕ) (pm : m ≡ k .0) where
-  pub all-bits : m ≡ 0 → 2 ^ 64 - 1 ≡ bitsOf masks k
-  unfolding bitsOf
-  all-bits h = rw (eq-eqb (k .0) 0 (sym pm ∙ h))
+pub by-number : (masks : List ℕ) (k : Mask) (m r : ℕ) → m ≡ k .0 → r ≡ (if eqb m 0 then 2 ^ 64 - 1 else getD masks m 0) → r ≡ bitsOf masks k
+unfolding bitsOf
+by-number masks k m r p h = h ∙ rw p
 
-  pub its-bits : (m ≡ 0 → ⊥) → getD masks m 0 ≡ bitsOf masks k
-  unfolding bitsOf
-  its-bits h = rw (ne-eqb (k .0) 0 (λ e. h (pm ∙ e)), pm)
-
-  pub no-bits : (m ≡ 0 → ⊥) → length masks ≤ m → 0 ≡ bitsOf masks k
-  no-bits h g = sym (List·getD-eq-default masks 0 g) ∙ its-bits h
-
-module _ (moves : Move) (n w : ℕ) (z : Bool) (bits c j v s : ℕ) (pv : v ≡ w) (ps : s ≡ n * j) where
-  pub above : v ≤ s → Zero ≡ originBy moves n w z bits c j
-  unfolding originBy
-  above h = rw (← pv, ← ps, le-leb v s h)
-
-  pub through : s < v → (t : Bool) → t ≡ written bits j → t ≡ true → (o : Origin) → o ≡ pickOf moves n w c j → o ≡ originBy moves n w z bits c j
-  unfolding originBy
-  through h t p q o e = e ∙ rw (← pv, ← ps, lt-leb v s h, sym p ∙ q)
-
-  pub not-through : s < v → (t : Bool) → t ≡ written bits j → t ≡ false → (o : Origin) → o ≡ maskedOff z j → o ≡ originBy moves n w z bits c j
-  unfolding originBy
-  not-through h t p q o e = e ∙ rw (← pv, ← ps, lt-leb v s h, sym p ∙ q)
+pub by-start : (moves : Move) (n w : ℕ) (z : Bool) (bits c j v s : ℕ) (o : Origin) → v ≡ w → s ≡ n * j
+    → o ≡ (if leb v s then Zero else if written bits j then pickOf moves n w c j else maskedOff z j) → o ≡ originBy moves n w z bits c j
+unfolding originBy
+by-start moves n w z bits c j v s o p q h = h ∙ rw (p, q)

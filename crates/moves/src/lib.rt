@@ -195,19 +195,16 @@ pub fn mask_bits(masks: &[u64], mask: Mask) -> u64
 {
     let k = mask.number() as usize;
     if k == 0 {
-        return 0xFFFF_FFFF_FFFF_FFFF;
+        return u64::MAX;
     }
-    if k < masks.len() {
-        return masks[k];
-    }
-    0
+    if k < masks.len() { masks[k] } else { 0 }
 }
 
 // Whether element j is let through.
 fn is_written(bits: u64, j: u8) -> bool
     ensures { λ r. ⌜ r ≡ written bits j ⌝ }
 {
-    if j < 64 { (bits >> j) % 2 == 1 } else { false }
+    j < 64 && (bits >> j) % 2 == 1
 }
 
 // Where an element that is not let through comes from.
@@ -237,7 +234,8 @@ pub fn origin_of(
         return Origin::Zero;
     }
     if is_written(bits, j) {
-        return pick(moves, element, width, c, j);
+        pick(moves, element, width, c, j)
+    } else {
+        masked_off(zeroing, j)
     }
-    masked_off(zeroing, j)
 }

@@ -1,5 +1,7 @@
+use lib.ListN.{List·getD-eq-default}
 use borrow.Author.Needs.{needs}
-use Rattle.moves.proofs.Rules.{all-bits, its-bits, no-bits}
+use Rattle.seq.proofs.Cases.{cases}
+use Rattle.moves.proofs.Rules.{by-number}
 use Rattle.moves.proofs.mask_bits.Statement.{statement}
 use Rattle.moves.proofs.mask_bits.Tie as tie
 
@@ -9,8 +11,8 @@ mask-bits-spec =
     (tie.spec
     (λ c κs. search needs)
     (λ c. search needs)
-    (λ c. search (needs, all-bits, its-bits, no-bits) depth 12)
+    (λ c. search (needs, by-number, cases) depth 12)
     (λ c. search needs)
     (λ c. search needs)
-    (λ c. search (needs, all-bits, its-bits, no-bits) depth 12)
-    (λ c. search (needs, all-bits, its-bits, no-bits) depth 12))
+    (λ c. search (needs, by-number, cases) depth 12)
+    (λ c. search (needs, by-number, cases, List·getD-eq-default) depth 12))

@@ -1,5 +1,6 @@
 use borrow.Author.Needs.{needs}
-use Rattle.moves.proofs.Rules.{above, through, not-through}
+use Rattle.seq.proofs.Cases.{cases}
+use Rattle.moves.proofs.Rules.{by-start}
 use Rattle.moves.proofs.origin_of.Statement.{statement}
 use Rattle.moves.proofs.origin_of.Tie as tie
 
@@ -10,9 +11,9 @@ origin-of-spec =
     (λ c κs. search needs)
     (λ c. search needs)
     (λ c κs. search needs)
-    (λ c. search (needs, above) depth 12)
+    (λ c. search (needs, by-start, cases) depth 12)
     (λ c κs. search needs)
     (λ c κs. search needs)
-    (λ c. search (needs, through) depth 12)
     (λ c κs. search needs)
-    (λ c. search (needs, not-through) depth 12))
+    (λ c. search (needs, by-start, cases) depth 12)
+    (λ c. search (needs, by-start, cases) depth 12))
