@@ -106,7 +106,7 @@ module _ (moves : Move) (n v c j : ℕ) where
   unfolding pickOf
   picks-in-lane-or-zero q o h = h ∙ rw q
 
--- ---- masks: a definition with what the callees gave in it, from which each way to return follows by its tests (`cases`)
+-- ---- masks: one rule a function, its definition with what the callees gave; each way to return follows by its tests (`cases`)
 
 pub by-number : (masks : List ℕ) (k : Mask) (m r : ℕ) → m ≡ k .0 → r ≡ (if eqb m 0 then 2 ^ 64 - 1 else getD masks m 0) → r ≡ bitsOf masks k
 unfolding bitsOf

@@ -234,8 +234,7 @@ pub fn origin_of(
         return Origin::Zero;
     }
     if is_written(bits, j) {
-        pick(moves, element, width, c, j)
-    } else {
-        masked_off(zeroing, j)
+        return pick(moves, element, width, c, j);
     }
+    masked_off(zeroing, j)
 }

@@ -14,6 +14,6 @@ origin-of-spec =
     (λ c. search (needs, by-start, cases) depth 12)
     (λ c κs. search needs)
     (λ c κs. search needs)
-    (λ c κs. search needs)
     (λ c. search (needs, by-start, cases) depth 12)
+    (λ c κs. search needs)
     (λ c. search (needs, by-start, cases) depth 12))
