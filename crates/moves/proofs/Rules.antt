@@ -1,8 +1,8 @@
 -- What each function on moves gives, by what its callees gave: a rule for each way it can return.
 use Prim.Native.Nat.{ℕ, _+_, _-_, _*_, _/_, _%_, _^_, _<_, _≤_}
-use mathlib.Core.Path.{_≡_, _∙_, sym}
+use mathlib.Core.Path.{_≡_, refl, _∙_, sym}
 use mathlib.Core.Bool.{Bool}
-use mathlib.Core.List.{List}
+use mathlib.Core.List.{List, [], _∷_, map}
 use native.Mathlib.Nat.{div-eq-of-lt, lt-of-lt-of-le, mul-le-mul}
 use native.Mathlib.Omega.{arith}
 use lib.Dec.{eqb, leb}
@@ -111,6 +111,11 @@ module _ (moves : Move) (n v c j : ℕ) where
 pub by-number : (masks : List ℕ) (k : Mask) (m r : ℕ) → m ≡ k .0 → r ≡ (if eqb m 0 then 2 ^ 64 - 1 else getD masks m 0) → r ≡ bitsOf masks k
 unfolding bitsOf
 by-number masks k m r p h = h ∙ rw p
+
+-- eight masks, by the numbers 1 to 7
+pub masks-by-number : map (λ (k : ℕ). bitsOf (10 ∷ 11 ∷ 12 ∷ 13 ∷ 14 ∷ 15 ∷ 16 ∷ 17 ∷ []) (record { 0 = k })) (1 ∷ 2 ∷ 3 ∷ 4 ∷ 5 ∷ 6 ∷ 7 ∷ []) ≡ 11 ∷ 12 ∷ 13 ∷ 14 ∷ 15 ∷ 16 ∷ 17 ∷ []
+unfolding bitsOf
+masks-by-number = refl
 
 pub by-start : (moves : Move) (n w : ℕ) (z : Bool) (bits c j v s : ℕ) (o : Origin) → v ≡ w → s ≡ n * j
     → o ≡ (if leb v s then Zero else if written bits j then pickOf moves n w c j else maskedOff z j) → o ≡ originBy moves n w z bits c j
