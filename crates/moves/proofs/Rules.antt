@@ -1,9 +1,9 @@
 -- What each function on moves gives, by what its callees gave: a rule for each way it can return.
-use Prim.Native.Nat.{ℕ, _+_, _-_, _*_, _/_, _%_, _^_, _<_, _≤_}
+use Prim.Native.Nat.{ℕ, suc, _+_, _-_, _*_, _/_, _%_, _^_, _<_, _≤_}
 use mathlib.Core.Path.{_≡_, refl, _∙_, sym}
 use mathlib.Core.Bool.{Bool}
 use mathlib.Core.List.{List, [], _∷_, map}
-use native.Mathlib.Nat.{div-eq-of-lt, lt-of-lt-of-le, mul-le-mul}
+use native.Mathlib.Nat.{div-div-eq-div-mul, div-eq-of-lt, lt-of-lt-of-le, mul-le-mul, pow-succ'}
 use native.Mathlib.Omega.{arith}
 use lib.Dec.{eqb, leb}
 use lib.ListN.{getD}
@@ -112,10 +112,18 @@ pub by-number : (masks : List ℕ) (k : Mask) (m r : ℕ) → m ≡ k .0 → r �
 unfolding bitsOf
 by-number masks k m r p h = h ∙ rw p
 
--- eight masks, by the numbers 1 to 7
-pub masks-by-number : map (λ (k : ℕ). bitsOf (10 ∷ 11 ∷ 12 ∷ 13 ∷ 14 ∷ 15 ∷ 16 ∷ 17 ∷ []) (record { 0 = k })) (1 ∷ 2 ∷ 3 ∷ 4 ∷ 5 ∷ 6 ∷ 7 ∷ []) ≡ 11 ∷ 12 ∷ 13 ∷ 14 ∷ 15 ∷ 16 ∷ 17 ∷ []
+-- eight masks, by the numbers 1 to 7: each is whole, whatever it holds
+pub masks-by-number : (k0 k1 k2 k3 k4 k5 k6 k7 : ℕ) → map (λ (k : ℕ). bitsOf (k0 ∷ k1 ∷ k2 ∷ k3 ∷ k4 ∷ k5 ∷ k6 ∷ k7 ∷ []) (record { 0 = k })) (1 ∷ 2 ∷ 3 ∷ 4 ∷ 5 ∷ 6 ∷ 7 ∷ []) ≡ k1 ∷ k2 ∷ k3 ∷ k4 ∷ k5 ∷ k6 ∷ k7 ∷ []
 unfolding bitsOf
-masks-by-number = refl
+masks-by-number k0 k1 k2 k3 k4 k5 k6 k7 = refl
+
+-- the lowest bit of a mask is for element 0, and the bits above it are for the elements after that
+pub bit-by-bit : (b bits j : ℕ) → b < 2 → (written (b + 2 * bits) 0 ≡ eqb b 1) × (written (b + 2 * bits) (suc j) ≡ written bits j)
+unfolding written
+bit-by-bit b bits j h =
+    let first : (b + 2 * bits) / 2 ^ 0 % 2 ≡ b = omega arith in
+    let above : (b + 2 * bits) / 2 ≡ bits = omega arith in
+    (rw first, rw (pow-succ' 2 j, ← div-div-eq-div-mul (b + 2 * bits) 2 (2 ^ j), above))
 
 pub by-start : (moves : Move) (n w : ℕ) (z : Bool) (bits c j v s : ℕ) (o : Origin) → v ≡ w → s ≡ n * j
     → o ≡ (if leb v s then Zero else if written bits j then pickOf moves n w c j else maskedOff z j) → o ≡ originBy moves n w z bits c j
