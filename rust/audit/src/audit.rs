@@ -95,7 +95,7 @@ pub fn audit_watched(
             let difference = difference(engine, options.seed, case, findings);
             return Err(Failure::Difference(Box::new(difference)));
         }
-        report.count(&case);
+        report.count(&case, comparison.is_b_ignored(&case));
         count += 1;
         watch(Progress {
             instructions: count,

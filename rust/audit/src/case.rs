@@ -31,6 +31,21 @@ impl Case {
         [self.code.as_slice(), self.trailing.as_slice()].concat()
     }
 
+    /// Whether b is wrong only because the third operand is a register: with memory the row has a
+    /// broadcast.
+    pub fn has_b_with_register(&self) -> bool {
+        self.damage == Some(Field::Broadcast) && self.shape.row.broadcast.is_some()
+    }
+
+    /// The instruction's bytes with b 0.
+    pub fn code_without_b(&self) -> Vec<u8> {
+        let fields = Fields {
+            broadcast: 0,
+            ..self.fields.clone()
+        };
+        fields.bytes()
+    }
+
     /// The register that is written; none if the instruction is refused.
     pub fn destination(&self) -> Option<usize> {
         let destination = usize::from(self.fields.destination);

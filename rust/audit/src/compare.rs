@@ -6,15 +6,21 @@ use crate::difference::Finding;
 use crate::engine::Engine;
 use crate::guarded::Guarded;
 use crate::processor::{Outcome, Processor};
-use crate::state::{FILE_SIZE, MASKS, REGISTER_SIZE};
+use crate::state::{State, FILE_SIZE, MASKS, REGISTER_SIZE};
 use reference::limits::feature;
 
 const FILL: u8 = 0xA5;
 const FILL_MASK: u64 = 0xA5A5_A5A5_A5A5_A5A5;
 
+/// VPSHUFD zmm1, zmm2 with b set.
+const B_WITH_REGISTER: [u8; 7] = [0x62, 0xF1, 0x7D, 0x58, 0x70, 0xCA, 0x1B];
+
 /// The processor, and the buffers that engines get.
 pub struct Comparison {
     processor: Processor,
+    /// Where the third operand is a register and the row has a broadcast, the manual has #UD for b
+    /// 1. Some processors ignore b there.
+    ignores_b: bool,
     code: Guarded<u8>,
     file: Guarded<u8>,
     masks: Guarded<u64>,
@@ -22,14 +28,22 @@ pub struct Comparison {
 }
 
 impl Comparison {
-    pub fn new(processor: Processor) -> Comparison {
+    pub fn new(mut processor: Processor) -> Comparison {
+        let ignores_b = processor.register_set().has_opmasks()
+            && processor.run(&B_WITH_REGISTER, &State::ZERO, &[]) != Outcome::Undefined;
         Comparison {
             processor,
+            ignores_b,
             code: Guarded::new(FILL),
             file: Guarded::new(FILL),
             masks: Guarded::new(FILL_MASK),
             memory: Guarded::new(FILL),
         }
+    }
+
+    /// Whether the processor carries the case out, although the engine has to refuse it.
+    pub fn is_b_ignored(&self, case: &Case) -> bool {
+        self.ignores_b && case.has_b_with_register()
     }
 
     /// Everything that is not as it should be.
@@ -40,13 +54,35 @@ impl Comparison {
         let mut findings = Vec::new();
         let outcome = self.processor.run(&case.code, &case.state, &case.memory);
         let answer = self.step(engine, case);
-        findings.extend(compare_outcome(case, outcome));
+        findings.extend(compare_outcome(self.expected_outcome(case), outcome));
         findings.extend(compare_answer(case, answer));
         findings.extend(self.compare_registers(case));
         findings.extend(self.compare_masks(case));
         findings.extend(self.written_by_processor());
         findings.extend(self.written_by_engine(case));
+        if self.is_b_ignored(case) {
+            findings.extend(self.compare_without_b(case));
+        }
         findings
+    }
+
+    /// The processor carries out an accepted instruction, of exactly these bytes, or raises #UD.
+    fn expected_outcome(&self, case: &Case) -> Outcome {
+        if case.damage.is_some() && !self.is_b_ignored(case) {
+            return Outcome::Undefined;
+        }
+        Outcome::Done {
+            length: case.code.len(),
+        }
+    }
+
+    /// To ignore b is to leave what the same instruction with b 0 leaves.
+    fn compare_without_b(&mut self, case: &Case) -> Option<Finding> {
+        let with_b = self.processor.after().clone();
+        let code = case.code_without_b();
+        let outcome = self.processor.run(&code, &case.state, &case.memory);
+        let is_same = outcome == self.expected_outcome(case) && *self.processor.after() == with_b;
+        (!is_same).then_some(Finding::NotIgnored)
     }
 
     fn step(&mut self, engine: &mut dyn Engine, case: &Case) -> (u32, u32) {
@@ -81,10 +117,13 @@ impl Comparison {
         })
     }
 
-    /// What the processor left. Bytes that a processor without AVX-512 does not have follow the
-    /// rule for bytes above the vector width (cleared in the destination) and for other registers
-    /// (unchanged).
+    /// What the processor left, or, where it alone carries the case out, what was there. Bytes that
+    /// a processor without AVX-512 does not have follow the rule for bytes above the vector width
+    /// (cleared in the destination) and for other registers (unchanged).
     fn expected_file(&self, case: &Case) -> [u8; FILE_SIZE] {
+        if self.is_b_ignored(case) {
+            return case.state.file;
+        }
         let registers = self.processor.register_set();
         let written = case.destination();
         let mut file = self.processor.after().file;
@@ -204,14 +243,7 @@ fn is_read_alike(case: &Case) -> bool {
     found == meant
 }
 
-/// The processor carries out an accepted instruction, of exactly these bytes, or raises #UD.
-fn compare_outcome(case: &Case, found: Outcome) -> Option<Finding> {
-    let expected = match case.damage {
-        Some(_) => Outcome::Undefined,
-        None => Outcome::Done {
-            length: case.code.len(),
-        },
-    };
+fn compare_outcome(expected: Outcome, found: Outcome) -> Option<Finding> {
     (found != expected).then_some(Finding::Processor { expected, found })
 }
 
@@ -243,6 +275,7 @@ mod tests {
     use crate::case::{Case, Plan};
     use crate::detect::{Capabilities, RegisterSet};
     use crate::engine;
+    use reference::limits::feature;
 
     /// A memory form that is carried out or refused; nothing without AVX-512.
     fn case(refused: bool) -> Option<Case> {
@@ -326,15 +359,77 @@ mod tests {
         };
         let length = accepted.code.len();
         let done = Outcome::Done { length };
-        assert_eq!(compare_outcome(&accepted, done), None);
-        assert_eq!(compare_outcome(&refused, Outcome::Undefined), None);
+        let comparison = comparison();
+        let differs = |case: &Case, found| {
+            compare_outcome(comparison.expected_outcome(case), found).is_some()
+        };
+        assert!(!differs(&accepted, done));
+        assert!(!differs(&refused, Outcome::Undefined));
         let longer = Outcome::Done { length: length + 1 };
         for outcome in [longer, Outcome::Undefined, Outcome::Fault] {
-            assert!(compare_outcome(&accepted, outcome).is_some(), "{outcome}");
+            assert!(differs(&accepted, outcome), "{outcome}");
         }
         for outcome in [done, Outcome::Fault, Outcome::NotRun("")] {
-            assert!(compare_outcome(&refused, outcome).is_some(), "{outcome}");
+            assert!(differs(&refused, outcome), "{outcome}");
         }
+    }
+
+    /// An engine that ignores b of a register form.
+    fn ignoring_b() -> engine::Function {
+        engine::Function {
+            name: "ignores b",
+            step: |code, file, masks, features, memory| {
+                let mut code = code.to_vec();
+                code[3] &= !0x10;
+                let stepped = reference::step(&code, file, masks, features, memory);
+                (stepped.status, stepped.length)
+            },
+        }
+    }
+
+    /// Whether the processor raises #UD for it or ignores b: an engine has to refuse it, and what is
+    /// expected of the processor is what it does.
+    #[test]
+    fn b_with_a_register_is_refused() {
+        let Some(any) = case(true) else { return };
+        let plan = Plan::new(Capabilities::detect());
+        let cases = (any.number..).map(|number| plan.case(1, number));
+        let is_changed = |case: &Case| case.fields.mask == 0 && case.features == feature::ALL;
+        let mut cases = cases.filter(|case| case.has_b_with_register() && is_changed(case));
+        let case = cases.next().expect("cases do not end");
+        let mut comparison = comparison();
+        assert_eq!(comparison.check(&mut engine::reference(), &case), []);
+        let findings = comparison.check(&mut ignoring_b(), &case);
+        let found = Finding::Status {
+            expected: 4,
+            found: 0,
+        };
+        assert!(findings.contains(&found), "{findings:?}");
+        comparison.ignores_b = !comparison.ignores_b;
+        let findings = comparison.check(&mut engine::reference(), &case);
+        assert!(
+            matches!(findings[0], Finding::Processor { .. }),
+            "{findings:?}"
+        );
+    }
+
+    /// A processor that does something else is not taken for one that ignores b.
+    #[test]
+    fn ignoring_b_is_doing_without_it() {
+        let Some(accepted) = case(false) else { return };
+        let mut comparison = comparison();
+        let run = |comparison: &mut Comparison, case: &Case| {
+            comparison
+                .processor
+                .run(&case.code, &case.state, &case.memory);
+        };
+        run(&mut comparison, &accepted);
+        assert_eq!(comparison.compare_without_b(&accepted), None);
+        let mut other = accepted.clone();
+        other.state.masks[7] ^= 1;
+        run(&mut comparison, &other);
+        let findings = comparison.compare_without_b(&accepted);
+        assert_eq!(findings, Some(Finding::NotIgnored));
     }
 
     #[test]

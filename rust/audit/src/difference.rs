@@ -14,6 +14,8 @@ pub enum Finding {
     Encoding,
     /// What the processor did, and should have done.
     Processor { expected: Outcome, found: Outcome },
+    /// The processor carried out what has b wrong, but not as with b 0.
+    NotIgnored,
     /// The engine's status.
     Status { expected: u32, found: u32 },
     /// The engine's length.
@@ -43,6 +45,9 @@ impl fmt::Display for Finding {
             }
             Finding::Processor { expected, found } => {
                 write!(f, "processor: {found}; expected: {expected}")
+            }
+            Finding::NotIgnored => {
+                write!(f, "processor: b is neither #UD nor ignored here")
             }
             Finding::Status { expected, found } => {
                 write!(f, "engine: status {found}; expected: status {expected}")

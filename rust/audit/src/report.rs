@@ -25,14 +25,14 @@ pub struct FormCount {
     pub masked: u64,
     /// Of these, with the destination as a source too.
     pub overlapping: u64,
-    /// Refused instructions: #UD.
-    pub undefined: u64,
+    /// Refused instructions.
+    pub refused: u64,
 }
 
 impl FormCount {
     fn add(&mut self, case: &Case) {
         if case.damage.is_some() {
-            self.undefined += 1;
+            self.refused += 1;
             return;
         }
         self.steps += 1;
@@ -99,8 +99,10 @@ pub struct Report {
     pub capabilities: Capabilities,
     /// Instructions by name, VEX or EVEX, and width.
     pub forms: BTreeMap<Form, FormCount>,
-    /// #UD cases by the field that is wrong.
-    pub undefined: BTreeMap<Field, u64>,
+    /// Refused instructions by the field that is wrong.
+    pub refused: BTreeMap<Field, u64>,
+    /// Of these, those that the processor carries out, because it ignores b.
+    pub ignored: u64,
     pub coverage: Coverage,
     pub skipped: Vec<Skipped>,
     pub elapsed: Duration,
@@ -113,17 +115,19 @@ impl Report {
             seed,
             capabilities,
             forms: BTreeMap::new(),
-            undefined: FIELDS.map(|field| (field, 0)).into(),
+            refused: FIELDS.map(|field| (field, 0)).into(),
+            ignored: 0,
             coverage: Coverage::default(),
             skipped: Vec::new(),
             elapsed: Duration::ZERO,
         }
     }
 
-    pub(crate) fn count(&mut self, case: &Case) {
+    pub(crate) fn count(&mut self, case: &Case, is_b_ignored: bool) {
         self.forms.entry(case.shape.form()).or_default().add(case);
+        self.ignored += u64::from(is_b_ignored);
         match case.damage {
-            Some(field) => *self.undefined.entry(field).or_default() += 1,
+            Some(field) => *self.refused.entry(field).or_default() += 1,
             None => self.coverage.add(case),
         }
     }
@@ -134,8 +138,8 @@ impl Report {
     }
 
     /// Refused instructions compared.
-    pub fn undefined_cases(&self) -> u64 {
-        self.undefined.values().sum()
+    pub fn refused_cases(&self) -> u64 {
+        self.refused.values().sum()
     }
 
     /// Register bytes compared after each instruction.

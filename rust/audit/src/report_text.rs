@@ -18,10 +18,10 @@ impl Display for Report {
         write_machine(f, self, set)?;
         write_compared(f, self, set)?;
         write_forms(f, &self.forms)?;
-        write_undefined(f, &self.undefined)?;
+        write_refused(f, &self.refused)?;
         write_coverage(f, &self.coverage)?;
         let seconds = self.elapsed.as_secs_f64();
-        let rate = (self.steps() + self.undefined_cases()) as f64 / seconds.max(1e-9);
+        let rate = (self.steps() + self.refused_cases()) as f64 / seconds.max(1e-9);
         writeln!(
             f,
             "time: {seconds:.1} seconds, {rate:.0} instructions a second"
@@ -57,12 +57,20 @@ fn skipped_forms(skipped: &[Skipped]) -> String {
 }
 
 fn write_compared(f: &mut Formatter<'_>, report: &Report, set: RegisterSet) -> Result {
+    let (refused, ignored) = (report.refused_cases(), report.ignored);
     writeln!(
         f,
         "steps compared: {} carried out, {} refused with #UD",
         report.steps(),
-        report.undefined_cases()
+        refused - ignored
     )?;
+    if ignored > 0 {
+        writeln!(
+            f,
+            "  and {ignored} refused that this processor carries out: the manual has #UD for b with a \
+             register as\n  third operand, and this processor ignores b there"
+        )?;
+    }
     writeln!(
         f,
         "compared after each: {FILE_SIZE} register bytes ({REGISTERS} registers of {REGISTER_SIZE} \
@@ -91,7 +99,7 @@ const COLUMNS: [&str; 7] = [
     "broadcast",
     "masked",
     "overlap",
-    "#UD",
+    "refused",
 ];
 
 fn write_forms(f: &mut Formatter<'_>, forms: &BTreeMap<Form, FormCount>) -> Result {
@@ -112,7 +120,7 @@ fn write_forms(f: &mut Formatter<'_>, forms: &BTreeMap<Form, FormCount>) -> Resu
             count.broadcast,
             count.masked,
             count.overlapping,
-            count.undefined,
+            count.refused,
         ];
         write_row(f, &form.to_string(), &counts)?;
     }
@@ -127,9 +135,9 @@ fn write_row<T: Display>(f: &mut Formatter<'_>, form: &str, columns: &[T]) -> Re
     writeln!(f)
 }
 
-fn write_undefined(f: &mut Formatter<'_>, undefined: &BTreeMap<Field, u64>) -> Result {
+fn write_refused(f: &mut Formatter<'_>, refused: &BTreeMap<Field, u64>) -> Result {
     let text = |(field, count): (&Field, &u64)| format!("{} {count}", field_name(*field));
-    let fields: Vec<_> = undefined.iter().map(text).collect();
+    let fields: Vec<_> = refused.iter().map(text).collect();
     writeln!(f, "refused by wrong field: {}", fields.join(", "))
 }
 

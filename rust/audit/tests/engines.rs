@@ -3,7 +3,7 @@
 use audit::{audit, engine, Capabilities, Difference, Engine, Failure, Finding, Form, Limit};
 use audit::{Options, RegisterSet, Report, Skipped};
 use reference::limits::feature;
-use reference::{decode, Decoded};
+use reference::{decode, Decoded, Field};
 
 const SEED: u64 = 20_240_607;
 /// Each wrong engine must be caught within so many cases.
@@ -51,11 +51,18 @@ fn engines_agree_with_the_processor() {
 }
 
 fn check_coverage(report: &Report) {
-    assert_eq!((report.steps(), report.undefined_cases()), (60_000, 20_000));
+    assert_eq!((report.steps(), report.refused_cases()), (60_000, 20_000));
     assert_eq!(report.bytes_per_step(), 2_048);
     assert_eq!(report.processor_bytes(), 2_048);
-    assert_eq!(report.undefined.len(), 6);
-    assert!(report.undefined.values().all(|count| *count > 0));
+    assert_eq!(report.refused.len(), 6);
+    assert!(report.refused.values().all(|count| *count > 0));
+    // A processor that ignores b does so with a register alone.
+    assert!(report.ignored < report.refused[&Field::Broadcast]);
+    let text = report.to_string();
+    assert_eq!(
+        report.ignored > 0,
+        text.contains("this processor ignores b")
+    );
     let coverage = &report.coverage;
     let used = [
         coverage.destinations.len(),
@@ -160,7 +167,7 @@ fn nothing_is_compared_without_avx() {
             ..options(100)
         },
     );
-    assert_eq!((report.steps(), report.undefined_cases()), (0, 0));
+    assert_eq!((report.steps(), report.refused_cases()), (0, 0));
     assert!(report.to_string().contains("nothing was compared"));
 }
 

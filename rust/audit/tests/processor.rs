@@ -151,7 +151,7 @@ fn undefined_changes_nothing() {
         return;
     };
     let state = state();
-    let undefined: [&[u8]; 10] = [
+    let undefined: [&[u8]; 9] = [
         &[0xC5, 0xE9, 0x70, 0xCA, 0x1B],
         &[0x62, 0xF1, 0x7D, 0xC8, 0x70, 0xCA, 0x1B],
         &[0x62, 0xF1, 0x7D, 0x68, 0x70, 0xCA, 0x1B],
@@ -161,7 +161,6 @@ fn undefined_changes_nothing() {
         &[0x62, 0xF2, 0xED, 0x58, 0x00, 0x08],
         &[0xC4, 0xE3, 0xF9, 0x04, 0xCA, 0x1B], // VPERMILPS: W, vvvv
         &[0xC4, 0xE3, 0x69, 0x04, 0xCA, 0x1B],
-        &[0x62, 0xF1, 0xED, 0x58, 0x15, 0xCB], // VUNPCKHPD: b with a register
     ];
     for code in undefined {
         let memory = [0x77; 64];
@@ -170,6 +169,25 @@ fn undefined_changes_nothing() {
         assert_eq!(*processor.after(), state, "{code:02X?}");
         assert!(processor.is_memory_intact() && processor.is_context_intact());
     }
+}
+
+/// VUNPCKHPD: the manual has #UD, and some processors ignore b.
+#[test]
+fn b_with_a_register_is_undefined_or_ignored() {
+    let Some(mut processor) = processor() else {
+        return;
+    };
+    let (mut state, length) = (state(), 6);
+    let outcome = processor.run(&[0x62, 0xF1, 0xED, 0x58, 0x15, 0xCB], &state, &[]);
+    let after = processor.after().clone();
+    if outcome == (Outcome::Done { length }) {
+        println!("this processor ignores b with a register");
+        processor.run(&[0x62, 0xF1, 0xED, 0x48, 0x15, 0xCB], &state, &[]);
+        state = processor.after().clone();
+    } else {
+        assert_eq!(outcome, Outcome::Undefined);
+    }
+    assert_eq!(after, state);
 }
 
 /// Memory forms with rax as the base, and the bytes that they read.

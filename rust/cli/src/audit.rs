@@ -47,7 +47,7 @@ fn limit(options: &Options) -> Result<Limit, String> {
 
 fn closing(result: Result<Report, ::audit::Failure>) -> Result<Answer, Failure> {
     match result {
-        Ok(report) if report.steps() + report.undefined_cases() == 0 => {
+        Ok(report) if report.steps() + report.refused_cases() == 0 => {
             Err("expected x86-64 Linux and a processor with AVX: nothing was compared".into())
         }
         Ok(report) => Ok(Answer::text(report.to_string())),

@@ -241,8 +241,10 @@ usage: tarhuspo audit [--seconds N | --steps N | --case N] [--seed N]
 Carries out random instructions on this machine's processor and with the library.
 After each it compares 2,048 register bytes (32 registers of 64 bytes), 8 opmasks
 of 64 bits, the memory operand, status and length, and guard bytes around all
-buffers. Damaged encodings must raise #UD and be refused with status 4. It ends
-at the first difference, and prints all that is needed to repeat that.
+buffers. Damaged encodings must raise #UD and be refused with status 4; b with a
+register as third operand, which some processors ignore, must be refused all the
+same. It ends at the first difference, and prints all that is needed to repeat
+that.
 
   --seconds N      stop after N seconds; 10 if nothing is given
   --steps N        stop after N instructions, accepted and refused ones together

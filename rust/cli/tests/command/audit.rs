@@ -22,7 +22,8 @@ fn report_states_sizes_with_their_units() {
         "engine: tarhuspo, seed 5\n",
         "\nprocessor: ",
         "\nforms skipped: ",
-        "\nsteps compared: 1500 carried out, 500 refused with #UD\n",
+        "\nsteps compared: 1500 carried out, ",
+        " refused with #UD\n",
         "\ncompared after each: 2048 register bytes (32 registers of 64 bytes), ",
         " 8 opmasks of 64 bits,\n",
         " status, length in bytes, the memory operand, the guard bytes ",
@@ -31,6 +32,14 @@ fn report_states_sizes_with_their_units() {
     for line in lines {
         assert_eq!(report.matches(line).count(), 1, "{line:?} in\n{report}");
     }
+    // Some processors carry out a few that are refused.
+    let number = |before: &str| {
+        let (_, rest) = report.split_once(before)?;
+        rest.split(' ').next()?.parse::<u32>().ok()
+    };
+    let undefined = number("carried out, ").expect("a number");
+    let ignored = number("\n  and ").unwrap_or(0);
+    assert_eq!(undefined + ignored, 500, "{report}");
 }
 
 /// Each instruction has been compared, or is named among those that this machine lacks.
