@@ -29,8 +29,11 @@ pub struct Comparison {
 
 impl Comparison {
     pub fn new(mut processor: Processor) -> Comparison {
+        let done = Outcome::Done {
+            length: B_WITH_REGISTER.len(),
+        };
         let ignores_b = processor.register_set().has_opmasks()
-            && processor.run(&B_WITH_REGISTER, &State::ZERO, &[]) != Outcome::Undefined;
+            && processor.run(&B_WITH_REGISTER, &State::ZERO, &[]) == done;
         Comparison {
             processor,
             ignores_b,
@@ -397,6 +400,12 @@ mod tests {
         let is_changed = |case: &Case| case.fields.mask == 0 && case.features == feature::ALL;
         let mut cases = cases.filter(|case| case.has_b_with_register() && is_changed(case));
         let case = cases.next().expect("cases do not end");
+        // Without b it is an instruction, and one bit is all that changes.
+        let without_b = case.code_without_b();
+        assert_eq!(reference::decode(&without_b, feature::ALL).status, 0);
+        let mut code = case.code.clone();
+        code[3] ^= 0x10;
+        assert_eq!(code, without_b);
         let mut comparison = comparison();
         assert_eq!(comparison.check(&mut engine::reference(), &case), []);
         let findings = comparison.check(&mut ignoring_b(), &case);
