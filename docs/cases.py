@@ -1,7 +1,7 @@
 #!/usr/bin/env python3
 """The expected output of the program `cases` (crates/cases/stdout), worked out without the library.
 
-Each line of document 01's table of cases, and each case of request 1, has its answer, length, memory and destination
+Each line of document 01's table of cases, and each case of requests 1 and 3, has its answer, length, memory and destination
 bytes written here by hand, from the papers' rules for the instruction: there is no decoder. From the repository's top,
 `python3 docs/cases.py > crates/cases/stdout` writes the file. `.ci/run` compares the file with what this prints, and
 `rt check cases` with what the program prints.
@@ -61,6 +61,14 @@ def refused(answer):
     return (answer, 0, 0, None, None)
 
 
+# Answer 4 with the number of the wrong field.
+FIXED_BITS, W, WIDTH, VVVV, B, Z = range(1, 7)
+
+
+def wrong(field):
+    return refused(f"4:{field}")
+
+
 # Document 01's cases.
 BASE = [
     # VPSHUFD xmm1, xmm2, 1B
@@ -68,26 +76,26 @@ BASE = [
     # The immediate is missing.
     ("C5 F9 70 CA", refused(2)),
     # vvvv is not all ones.
-    ("C5 E9 70 CA 1B", refused(4)),
+    ("C5 E9 70 CA 1B", wrong(VVVV)),
     # VPSHUFD zmm1{k1}{z}, zmm2, 1B
     ("62 F1 7D C9 70 CA 1B",
      accepted(7, 0, 1, turned_even(2, 0) + turned_even(2, 1) + turned_even(2, 2) + turned_even(2, 3))),
     # z with mask 0.
-    ("62 F1 7D C8 70 CA 1B", refused(4)),
+    ("62 F1 7D C8 70 CA 1B", wrong(Z)),
     # Width 3.
-    ("62 F1 7D 68 70 CA 1B", refused(4)),
+    ("62 F1 7D 68 70 CA 1B", wrong(WIDTH)),
     # VPSHUFD zmm1, m32 repeated, 00
     ("62 F1 7D 58 70 08 00", accepted(7, 4, 1, memory_dwords([0] * 16))),
     # b with a register.
-    ("62 F1 7D 58 70 CA 1B", refused(4)),
+    ("62 F1 7D 58 70 CA 1B", wrong(B)),
     # VPSHUFD zmm17, zmm26, 1B
     ("62 81 7D 48 70 CA 1B", accepted(7, 0, 17, turned(26, 0) + turned(26, 1) + turned(26, 2) + turned(26, 3))),
     # VPERMILPD ymm1, ymm2, 05
     ("C4 E3 7D 05 CA 05", accepted(6, 0, 1, qwords(2, [1, 0, 3, 2]) + zeros(32))),
     # VPERM2F128 with L 0.
-    ("C4 E3 69 06 CB 31", refused(4)),
+    ("C4 E3 69 06 CB 31", wrong(WIDTH)),
     # VPERMB with b.
-    ("62 F2 6D 58 8D 08", refused(4)),
+    ("62 F2 6D 58 8D 08", wrong(B)),
     # VPERMILPD xmm1, xmm2, xmm3. Quadwords 0 and 1 of xmm3 begin with 193 (C1) and 201 (C9) in the low file and
     # with 0 in the high file: bit 1 is 0 in each, so both quadwords take the low one.
     ("C4 E2 69 0D CB", accepted(5, 0, 1, qwords(2, [0, 0]) + zeros(48))),
@@ -123,7 +131,7 @@ MORE = [
     (63, "62 F2 6D 48 00 CB", accepted(6, 0, 1, SHUFFLED)),
     (63, "62 F2 ED 48 00 CB", accepted(6, 0, 1, SHUFFLED)),
     # VPSHUFB with b.
-    (63, "62 F2 6D 58 00 08", refused(4)),
+    (63, "62 F2 6D 58 00 08", wrong(B)),
     # AVX512BW is missing.
     (31, "62 F2 6D 48 00 CB", refused(5)),
     # VUNPCKLPD xmm1, xmm2, xmm3, with W 0 and with W 1
@@ -142,7 +150,32 @@ MORE = [
     (63, "62 F2 6D 49 00 CB", accepted(6, 0, 1, KEPT_ODD)),
 ]
 
-CASES = [(31, code, result) for code, result in BASE] + MORE
+# Request 3: the fields that no case above has by itself, and two wrong fields at once, of which the first counts. What is
+# changed in VPSHUFD zmm1, zmm2, 1B (62 F1 7D 48 70 CA 1B): F9 has bit 3 of the second byte, 75 a vvvv of 1110b, and of the
+# fourth byte 20 makes the width 3, 10 is b and 80 is z.
+RESERVED = [
+    ("62 F9 7D 48 70 CA 1B", wrong(FIXED_BITS)),
+    # VPERM2F128 with W 1.
+    ("C4 E3 ED 06 CB 21", wrong(W)),
+    # Fixed bits with the width, vvvv, b and z.
+    ("62 F9 7D 68 70 CA 1B", wrong(FIXED_BITS)),
+    ("62 F9 75 48 70 CA 1B", wrong(FIXED_BITS)),
+    ("62 F9 7D 58 70 CA 1B", wrong(FIXED_BITS)),
+    ("62 F9 7D C8 70 CA 1B", wrong(FIXED_BITS)),
+    # W with the width (VPERM2F128, L 0) and with vvvv (VPERMILPD).
+    ("C4 E3 E9 06 CB 31", wrong(W)),
+    ("C4 E3 F5 05 CA 05", wrong(W)),
+    # The width with vvvv, b and z.
+    ("62 F1 75 68 70 CA 1B", wrong(WIDTH)),
+    ("62 F1 7D 78 70 CA 1B", wrong(WIDTH)),
+    ("62 F1 7D E8 70 CA 1B", wrong(WIDTH)),
+    # vvvv with b and z, and b with z.
+    ("62 F1 75 58 70 CA 1B", wrong(VVVV)),
+    ("62 F1 75 C8 70 CA 1B", wrong(VVVV)),
+    ("62 F1 7D D8 70 CA 1B", wrong(B)),
+]
+
+CASES = [(31, code, result) for code, result in BASE] + MORE + [(63, code, result) for code, result in RESERVED]
 
 # Controls for a lane. Every lane of register 3 and of memory has them, in both files.
 

@@ -29,6 +29,9 @@ static const uint8_t list_twice[] = {UNPACK, SHUFFLE, UNPACK, SHUFFLE};
 /* vpshufd zmm1{k1}, dword ptr [mem]{1to16}, 0x1b */
 static const uint8_t broadcast[] = {0x62, 0xF1, 0x7D, 0x59, 0x70, 0x08, 0x1B};
 
+/* The shuffle with vvvv in use, although it has no first source: #UD */
+static const uint8_t undefined[] = {0xC5, 0xE9, 0x70, 0xC9, 0x1B};
+
 /* The guest's registers: byte i of register r is file[64 * r + i]. */
 static uint8_t file[TARHUSPO_FILE_SIZE];
 static uint64_t masks[TARHUSPO_MASK_COUNT];
@@ -71,6 +74,16 @@ static uint32_t decode(void)
     printf("wants %" PRIu32 " bytes of memory\n", d.memory);
     printf("        without the last byte: status %" PRIu32 "\n", cut.status);
     return d.memory;
+}
+
+/* With status 4 the reason names the reserved field that is wrong. */
+static void refuse(void)
+{
+    tarhuspo_decoded d = tarhuspo_decode(undefined, sizeof undefined, FEATURES);
+
+    expect("vvvv is what is wrong", d.status == 4 && d.reason == TARHUSPO_REASON_VVVV);
+    printf("refused: status %" PRIu32 ", reason %" PRIu32 ": vvvv must be 1111b\n", d.status,
+           d.reason);
 }
 
 /* A step gets exactly the memory that decoding named, and is refused otherwise. */
@@ -150,8 +163,11 @@ static void listing(void)
 
 int main(void)
 {
+    uint32_t wanted = decode();
+
+    refuse();
     fill_registers();
-    step(decode());
+    step(wanted);
     run();
     maps();
     listing();

@@ -32,7 +32,7 @@ extern "C" {
  * size or limit, an answer that changes for some input. MINOR moves when something is only added: a
  * function, a constant, an instruction that status 3 refused before.
  */
-#define TARHUSPO_VERSION_MAJOR 2
+#define TARHUSPO_VERSION_MAJOR 3
 #define TARHUSPO_VERSION_MINOR 0
 
 /* Processor features: add those that the processor has. */
@@ -42,6 +42,23 @@ extern "C" {
 #define TARHUSPO_AVX512VL UINT32_C(8)
 #define TARHUSPO_AVX512_VBMI UINT32_C(16)
 #define TARHUSPO_AVX512BW UINT32_C(32)
+
+/*
+ * The reason of status 4: the reserved field that is wrong. These say what the field must be. Where
+ * several fields are wrong, the lowest number is given; with every other status the reason is 0.
+ */
+/* EVEX: bits 3 and 2 of the second byte are 0, and bit 2 of the third is 1. */
+#define TARHUSPO_REASON_FIXED_BITS UINT32_C(1)
+/* W is 0 in the VEX forms of VPERMILPD, VPERMILPS and VPERM2F128. */
+#define TARHUSPO_REASON_W UINT32_C(2)
+/* L'L is not 11b under EVEX, and L is 1 in VPERM2F128. */
+#define TARHUSPO_REASON_WIDTH UINT32_C(3)
+/* vvvv is 1111b, and V' is 1 under EVEX, in a form without a first source. */
+#define TARHUSPO_REASON_VVVV UINT32_C(4)
+/* b is 0 with a register as third operand, and on VPERMB and VPSHUFB. */
+#define TARHUSPO_REASON_B UINT32_C(5)
+/* z is 0 without an opmask (aaa 000b). */
+#define TARHUSPO_REASON_Z UINT32_C(6)
 
 /* Sizes: bytes of the register file, the number of opmasks, and entries of a byte map. */
 #define TARHUSPO_FILE_SIZE 2048
@@ -53,25 +70,27 @@ extern "C" {
 #define TARHUSPO_CODE_LIMIT 4096
 #define TARHUSPO_MOST_STEPS 1024
 /* Least bytes of the text of a listing. Every listing fits. */
-#define TARHUSPO_TEXT_SIZE 25624
+#define TARHUSPO_TEXT_SIZE 27672
 
 /*
  * A decoded instruction.
  *
  * status is 0 if the instruction is accepted. Otherwise it says what is wrong, and every other
- * field is 0. The first of these that applies is given:
+ * field is 0, but for the reason of a 4. The first of these that applies is given:
  *
  *  1  features is over 63.
  *  2  There is no byte.
  *  3  The first byte is not C4, C5 or 62 (hexadecimal, as below).
  *  2  The bytes end before the opcode does.
- *  4  EVEX: bit 3 or 2 of the second byte is not 0, or bit 2 of the third is not 1.
+ *  4  EVEX: bit 3 or 2 of the second byte is not 0, or bit 2 of the third is not 1. This is
+ *     TARHUSPO_REASON_FIXED_BITS.
  *  3  No supported instruction has this prefix kind, pp, map and opcode, and under EVEX this W.
  *  2  The bytes end before the instruction does.
  *  4  A reserved field is wrong (the processor raises #UD): VEX W is 1 where it must be 0,
  *     VPERM2F128 has 128 bits, the EVEX width is 3, vvvv or V' is not all ones in a form without
  *     a first source, the broadcast bit is set with a register as third operand or on VPERMB or
- *     VPSHUFB, or zeroing is set without an opmask.
+ *     VPSHUFB, or zeroing is set without an opmask. The reason is the lowest of those that hold,
+ *     TARHUSPO_REASON_W to TARHUSPO_REASON_Z.
  *  5  The instruction needs a feature that features does not have (#UD).
  */
 typedef struct {
@@ -90,6 +109,7 @@ typedef struct {
     uint32_t broadcast;     /* 1 if the memory operand is one element for all */
     uint32_t has_immediate; /* 1 if the form has an immediate byte */
     uint32_t immediate;     /* the immediate byte, 0 where there is none */
+    uint32_t reason;        /* with status 4 a TARHUSPO_REASON_ number, else 0 */
 } tarhuspo_decoded;
 
 /*
@@ -105,7 +125,7 @@ tarhuspo_decoded tarhuspo_decode(const uint8_t *code, size_t code_len, uint32_t 
  * The first of these that applies is given:
  *
  *  1  file_len is not 2048, masks_len is not 8, or features is over 63.
- *  2 to 5  The instruction is not accepted: as tarhuspo_decode, in its order.
+ *  2 to 5  The instruction is not accepted: as tarhuspo_decode, in its order and with its reason.
  *  6  memory_len is not exactly what tarhuspo_decode gives as memory: 0 for a register form, the
  *     vector width for a memory form, one element for a broadcast. An opmask changes nothing in
  *     that, even if it leaves no element.
@@ -113,6 +133,7 @@ tarhuspo_decoded tarhuspo_decode(const uint8_t *code, size_t code_len, uint32_t 
 typedef struct {
     uint32_t status; /* 0 done, or 1 to 6 as above */
     uint32_t length; /* bytes of the instruction; those behind are ignored */
+    uint32_t reason; /* with status 4 a TARHUSPO_REASON_ number, else 0 */
 } tarhuspo_stepped;
 
 /*
@@ -140,8 +161,8 @@ tarhuspo_stepped tarhuspo_step(const uint8_t *code, size_t code_len, uint8_t *fi
  *
  *  1  file_len is not 2048, masks_len is not 8, or features is over 63.
  *  8  code_len is over 4096.
- *  2 to 6  The instruction at place is refused: as tarhuspo_step without memory, so that every
- *     memory form that is not refused with 2 to 5 is refused with 6.
+ *  2 to 6  The instruction at place is refused: as tarhuspo_step without memory, with its reason.
+ *     Every memory form that is not refused with 2 to 5 is refused with 6.
  *
  * 1 and 8 are given whatever the budget is, also if it is 0.
  */
@@ -149,6 +170,7 @@ typedef struct {
     uint64_t steps;  /* instructions carried out, 0 for 1 and 8 */
     uint64_t place;  /* where the next or the refused instruction starts, 0 for 1 and 8 */
     uint32_t status; /* 0, or 1 to 6 or 8 as above */
+    uint32_t reason; /* with status 4 a TARHUSPO_REASON_ number, else 0 */
 } tarhuspo_ran;
 
 /*
@@ -170,14 +192,15 @@ tarhuspo_ran tarhuspo_run(const uint8_t *code, size_t code_len, uint8_t *file, s
  *
  *  1  map_len is not 2048, masks_len is not 8, or features is over 63.
  *  8  code_len is over 4096.
- *  2 to 5, 7  The instruction at place is refused: 2 to 5 as tarhuspo_decode, then 7 for a memory
- *     form, and for one whose control is in a register (VPERMB, VPSHUFB, and VPERMILPD or VPERMILPS
- *     without an immediate).
+ *  2 to 5, 7  The instruction at place is refused: 2 to 5 as tarhuspo_decode, with its reason,
+ *     then 7 for a memory form, and for one whose control is in a register (VPERMB, VPSHUFB, and
+ *     VPERMILPD or VPERMILPS without an immediate).
  */
 typedef struct {
     uint64_t place;  /* code_len if status is 0, else where the refused instruction starts, or 0
                         for 1 and 8 */
     uint32_t status; /* 0, or 1 to 5, 7 or 8 as above */
+    uint32_t reason; /* with status 4 a TARHUSPO_REASON_ number, else 0 */
 } tarhuspo_built;
 
 /*
@@ -227,7 +250,7 @@ uint32_t tarhuspo_bytemap_compose(const uint16_t *first, size_t first_len, const
  * status is 0 if the text was written, also for code that is refused. Otherwise it is the first of
  * these that applies, and written is 0:
  *
- *  1  text_len is under 25624.
+ *  1  text_len is under 27672.
  *  8  code_len is over 4096.
  */
 typedef struct {
@@ -239,9 +262,9 @@ typedef struct {
  * Writes a list of instructions as text: a line of headings (at, len, name, bits, answer), then for
  * each instruction a line with its place, length, mnemonic, vector width in bits, and 0. All
  * features count as there, and memory forms are listed like others. The first instruction that
- * tarhuspo_decode refuses has the last line: its place, 0, -, 0, and the status. Numbers are
- * decimal, a tab stands between fields, and a newline ends every line, also the last. No null byte
- * is added.
+ * tarhuspo_decode refuses has the last line: its place, 0, -, 0, and the status. Behind status 4
+ * stand a colon and the reason: 4:1 to 4:6. Numbers are decimal, a tab stands between fields, and a
+ * newline ends every line, also the last. No null byte is added.
  *
  * If status is 0, the first written bytes of text are changed and no others. Otherwise nothing is
  * changed. code is never written to.

@@ -51,7 +51,7 @@ module _ (features : ℕ) where
       by : First mappable Unmappable features code → ((l : List ℕ) → cut features k l .answer ≡ Answer.Done → split withoutMemory MemoryLength features k l ≡ cut features k l)
           → cut features (suc k) code .answer ≡ Answer.Done → split withoutMemory MemoryLength features (suc k) code ≡ cut features (suc k) code
       by (nothing q) ih e = empty-cut withoutMemory MemoryLength features (suc k) code q ∙ sym (empty-cut mappable Unmappable features (suc k) code q)
-      by (refused r f) ih e = absurd (no-done r (rw (f k) at e))
+      by (refused r o f) ih e = absurd (no-done r (rw (f k) at e))
       by (goes x d w f) ih e =
           let l = drop (x .length) code in
           let size = accepted-size code features x d in
@@ -65,7 +65,7 @@ module _ (features : ℕ) where
     where
       by : First mappable Unmappable features code → ((l : List ℕ) → AllMapped (cut features k l .instructions)) → AllMapped (cut features (suc k) code .instructions)
       by (nothing q) ih = rw (empty-cut mappable Unmappable features (suc k) code q) tt
-      by (refused r f) ih = rw (f k) tt
+      by (refused r o f) ih = rw (f k) tt
       by (goes x d w f) ih = rw (f k) (w, ih (drop (x .length) code))
 
   -- the empty list has no step

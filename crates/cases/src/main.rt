@@ -10,7 +10,7 @@ use seq::byte_at;
 use step::Stepped;
 
 // The features, the number of bytes, and the bytes.
-const CASES: [[u8; 9]; 30] = [
+const CASES: [[u8; 9]; 44] = [
     [31, 5, 0xC5, 0xF9, 0x70, 0xCA, 0x1B, 0, 0],
     [31, 4, 0xC5, 0xF9, 0x70, 0xCA, 0, 0, 0],
     [31, 5, 0xC5, 0xE9, 0x70, 0xCA, 0x1B, 0, 0],
@@ -41,6 +41,20 @@ const CASES: [[u8; 9]; 30] = [
     [63, 6, 0x62, 0xF2, 0x6D, 0x48, 0x0C, 0xCB, 0],
     [63, 6, 0x62, 0xF2, 0x6D, 0x58, 0x0C, 0x08, 0],
     [63, 6, 0x62, 0xF2, 0x6D, 0x49, 0x00, 0xCB, 0],
+    [63, 7, 0x62, 0xF9, 0x7D, 0x48, 0x70, 0xCA, 0x1B],
+    [63, 6, 0xC4, 0xE3, 0xED, 0x06, 0xCB, 0x21, 0],
+    [63, 7, 0x62, 0xF9, 0x7D, 0x68, 0x70, 0xCA, 0x1B],
+    [63, 7, 0x62, 0xF9, 0x75, 0x48, 0x70, 0xCA, 0x1B],
+    [63, 7, 0x62, 0xF9, 0x7D, 0x58, 0x70, 0xCA, 0x1B],
+    [63, 7, 0x62, 0xF9, 0x7D, 0xC8, 0x70, 0xCA, 0x1B],
+    [63, 6, 0xC4, 0xE3, 0xE9, 0x06, 0xCB, 0x31, 0],
+    [63, 6, 0xC4, 0xE3, 0xF5, 0x05, 0xCA, 0x05, 0],
+    [63, 7, 0x62, 0xF1, 0x75, 0x68, 0x70, 0xCA, 0x1B],
+    [63, 7, 0x62, 0xF1, 0x7D, 0x78, 0x70, 0xCA, 0x1B],
+    [63, 7, 0x62, 0xF1, 0x7D, 0xE8, 0x70, 0xCA, 0x1B],
+    [63, 7, 0x62, 0xF1, 0x75, 0x58, 0x70, 0xCA, 0x1B],
+    [63, 7, 0x62, 0xF1, 0x75, 0xC8, 0x70, 0xCA, 0x1B],
+    [63, 7, 0x62, 0xF1, 0x7D, 0xD8, 0x70, 0xCA, 0x1B],
 ];
 
 const MASKS: [u64; 8] = [0, 0x5555, 0x2222, 0x3333, 0x4444, 0x6666, 0x7777, 0x8888];
@@ -118,6 +132,7 @@ fn memory(half: Half, control: &[u8]) -> [u8; 255] {
 // What is shown of a decoding, and what its step wants.
 struct Summary {
     answer: u32,
+    reason: u32,
     length: usize,
     wanted: u8,
     // Reg::COUNT for a refusal, which has none.
@@ -131,6 +146,7 @@ fn summary_of(decoded: Decoded) -> Summary {
             let destination = x.destination;
             Summary {
                 answer: 0,
+                reason: 0,
                 length: x.length,
                 wanted: decode::instruction::wanted(third),
                 destination: destination.number(),
@@ -138,6 +154,7 @@ fn summary_of(decoded: Decoded) -> Summary {
         }
         Decoded::Refused(why) => Summary {
             answer: why.status(),
+            reason: why.reason(),
             length: 0,
             wanted: 0,
             destination: Reg::COUNT,
@@ -215,16 +232,21 @@ fn print_bytes(bytes: &[u8]) {
     }
 }
 
-fn print_answer(answer: u32, length: usize) {
+// An answer's number, with the wrong field's behind a colon if it is for one.
+fn print_answer(answer: u32, reason: u32, length: usize) {
     print(b"answer ");
     print_number(answer as u64);
+    if reason > 0 {
+        print(b":");
+        print_number(reason as u64);
+    }
     print(b", length ");
     print_number(length as u64);
 }
 
 fn print_summary(s: Summary) {
     print(b"decode: ");
-    print_answer(s.answer, s.length);
+    print_answer(s.answer, s.reason, s.length);
     print(b", memory ");
     print_number(s.wanted as u64);
     print(b"\n");
@@ -232,8 +254,8 @@ fn print_summary(s: Summary) {
 
 fn print_stepped(stepped: Stepped) {
     match stepped {
-        Stepped::Done(length) => print_answer(0, length),
-        Stepped::Refused(why) => print_answer(why.status(), 0),
+        Stepped::Done(length) => print_answer(0, 0, length),
+        Stepped::Refused(why) => print_answer(why.status(), why.reason(), 0),
     }
     print(b"\n");
 }
@@ -301,7 +323,7 @@ fn run(code: &[u8], features: Features, control: &[u8]) {
 }
 
 fn row(i: usize) -> [u8; 9]
-    requires { ⌜ i < 30 ⌝ }
+    requires { ⌜ i < 44 ⌝ }
     ensures { λ r. ⌜ getD r 1 0 ≤ 7 ⌝ }
 {
     CASES[i]
@@ -321,7 +343,7 @@ fn print_title(number: usize, features: u8, control: &[u8]) {
 
 // An empty control is none.
 fn run_case(number: usize, control: &[u8])
-    requires { ⌜ (1 ≤ number) × (number ≤ 30) ⌝ }
+    requires { ⌜ (1 ≤ number) × (number ≤ 44) ⌝ }
 {
     let case = row(number - 1);
     let features = case[0];

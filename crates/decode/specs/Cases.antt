@@ -267,6 +267,36 @@ requestedCases =
     ∷ case (0x62 ∷ 0xF2 ∷ 0x6D ∷ 0x28 ∷ 0x00 ∷ 0xCB ∷ []) 40 0 (ofThree vpshufb Evex Bits256 1 2 3 Immediate.Absent 6)
     ∷ []
 
+-- request 3, cases 31 to 44: the fixed bits and W by themselves, as the other fields are in the cases above; then two wrong fields at once, every pair
+-- that there is. W is wrong only under VEX, which has neither fixed bits nor b nor z. Then the other two fixed bits; all five fields of EVEX, and all but
+-- the first; the same bytes cut behind the opcode, before it, and before the immediate; and without any feature, and with features over the limit
+unfoldable pub reservedCases : List Case
+reservedCases =
+    case (0x62 ∷ 0xF9 ∷ 0x7D ∷ 0x48 ∷ 0x70 ∷ 0xCA ∷ 0x1B ∷ []) 63 4 (wrong FixedBits)
+    ∷ case (0xC4 ∷ 0xE3 ∷ 0xED ∷ 0x06 ∷ 0xCB ∷ 0x21 ∷ []) 63 4 (wrong W)
+    ∷ case (0x62 ∷ 0xF9 ∷ 0x7D ∷ 0x68 ∷ 0x70 ∷ 0xCA ∷ 0x1B ∷ []) 63 4 (wrong FixedBits)
+    ∷ case (0x62 ∷ 0xF9 ∷ 0x75 ∷ 0x48 ∷ 0x70 ∷ 0xCA ∷ 0x1B ∷ []) 63 4 (wrong FixedBits)
+    ∷ case (0x62 ∷ 0xF9 ∷ 0x7D ∷ 0x58 ∷ 0x70 ∷ 0xCA ∷ 0x1B ∷ []) 63 4 (wrong FixedBits)
+    ∷ case (0x62 ∷ 0xF9 ∷ 0x7D ∷ 0xC8 ∷ 0x70 ∷ 0xCA ∷ 0x1B ∷ []) 63 4 (wrong FixedBits)
+    ∷ case (0xC4 ∷ 0xE3 ∷ 0xE9 ∷ 0x06 ∷ 0xCB ∷ 0x31 ∷ []) 63 4 (wrong W)
+    ∷ case (0xC4 ∷ 0xE3 ∷ 0xF5 ∷ 0x05 ∷ 0xCA ∷ 0x05 ∷ []) 63 4 (wrong W)
+    ∷ case (0x62 ∷ 0xF1 ∷ 0x75 ∷ 0x68 ∷ 0x70 ∷ 0xCA ∷ 0x1B ∷ []) 63 4 (wrong WidthField)
+    ∷ case (0x62 ∷ 0xF1 ∷ 0x7D ∷ 0x78 ∷ 0x70 ∷ 0xCA ∷ 0x1B ∷ []) 63 4 (wrong WidthField)
+    ∷ case (0x62 ∷ 0xF1 ∷ 0x7D ∷ 0xE8 ∷ 0x70 ∷ 0xCA ∷ 0x1B ∷ []) 63 4 (wrong WidthField)
+    ∷ case (0x62 ∷ 0xF1 ∷ 0x75 ∷ 0x58 ∷ 0x70 ∷ 0xCA ∷ 0x1B ∷ []) 63 4 (wrong Vvvv)
+    ∷ case (0x62 ∷ 0xF1 ∷ 0x75 ∷ 0xC8 ∷ 0x70 ∷ 0xCA ∷ 0x1B ∷ []) 63 4 (wrong Vvvv)
+    ∷ case (0x62 ∷ 0xF1 ∷ 0x7D ∷ 0xD8 ∷ 0x70 ∷ 0xCA ∷ 0x1B ∷ []) 63 4 (wrong Broadcast)
+    ∷ case (0x62 ∷ 0xF5 ∷ 0x7D ∷ 0x48 ∷ 0x70 ∷ 0xCA ∷ 0x1B ∷ []) 63 4 (wrong FixedBits)
+    ∷ case (0x62 ∷ 0xF1 ∷ 0x79 ∷ 0x48 ∷ 0x70 ∷ 0xCA ∷ 0x1B ∷ []) 63 4 (wrong FixedBits)
+    ∷ case (0x62 ∷ 0xF9 ∷ 0x75 ∷ 0xF8 ∷ 0x70 ∷ 0xCA ∷ 0x1B ∷ []) 63 4 (wrong FixedBits)
+    ∷ case (0x62 ∷ 0xF1 ∷ 0x75 ∷ 0xF8 ∷ 0x70 ∷ 0xCA ∷ 0x1B ∷ []) 63 4 (wrong WidthField)
+    ∷ case (0x62 ∷ 0xF9 ∷ 0x75 ∷ 0xF8 ∷ 0x70 ∷ []) 63 4 (wrong FixedBits)
+    ∷ case (0x62 ∷ 0xF9 ∷ 0x75 ∷ 0xF8 ∷ []) 63 2 (Refused Truncated)
+    ∷ case (0x62 ∷ 0xF1 ∷ 0x75 ∷ 0xF8 ∷ 0x70 ∷ 0xCA ∷ []) 63 2 (Refused Truncated)
+    ∷ case (0x62 ∷ 0xF1 ∷ 0x75 ∷ 0xF8 ∷ 0x70 ∷ 0xCA ∷ 0x1B ∷ []) 0 4 (wrong WidthField)
+    ∷ case (0x62 ∷ 0xF1 ∷ 0x75 ∷ 0xF8 ∷ 0x70 ∷ 0xCA ∷ 0x1B ∷ []) 64 1 (Refused Argument)
+    ∷ []
+
 -- every case decodes as it says, and its answer has its number
 abbrev pub Decodes : List Case → Type 0
 Decodes cases =
@@ -293,3 +323,7 @@ further-decode = (refl, refl)
 pub requested-decode : Decodes requestedCases
 unfolding requestedCases decodeOf knownOf onHead onRow onTotal finishOf headOf prefixSize prefixOf fixedBits rows findIn matchesRow matchesW sibSize displacementSize checkOf wrongW wrongWidth wrongVvvv wrongBroadcast wrongZeroing enoughOf neededOf hasFeature instructionOf encodingOf firstOf thirdOf immediateOf widthOf elementOf digitsOf halfOf moveFrom controlOf
 requested-decode = (refl, refl)
+
+pub reserved-decode : Decodes reservedCases
+unfolding reservedCases decodeOf knownOf onHead onRow onTotal finishOf headOf prefixSize prefixOf fixedBits rows findIn matchesRow matchesW sibSize displacementSize checkOf wrongW wrongWidth wrongVvvv wrongBroadcast wrongZeroing enoughOf neededOf hasFeature instructionOf encodingOf firstOf thirdOf immediateOf widthOf elementOf digitsOf halfOf moveFrom controlOf
+reserved-decode = (refl, refl)

@@ -2,6 +2,7 @@
 pub mod Prefix
 pub mod Modrm
 pub mod Reserved
+pub mod Fields
 pub mod Instruction
 pub mod Decode
 pub mod Cases

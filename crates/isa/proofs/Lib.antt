@@ -1,6 +1,7 @@
 -- Lemmas on the instruction table, and its rules, which other crates cite.
 pub mod Bits
 pub mod Sizes
+pub mod Reasons
 mod Grid
 mod Search
 pub mod Rule

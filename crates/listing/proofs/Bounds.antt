@@ -1,5 +1,5 @@
--- Rule 8.6, how long a listing can be: a line has at most 25 bytes, and a list of at most 4,096 bytes at most 1,024 lines. With the headings that is
--- 25,624 bytes.
+-- Rule 8.6, how long a listing can be: a line has at most 27 bytes (request 3), and a list of at most 4,096 bytes at most 1,024 lines. With the
+-- headings that is 27,672 bytes.
 use Prim.Native.Nat.{ℕ, zero, suc, _+_, _*_, _/_, _%_, _^_, _<_, _≤_}
 use mathlib.Core.Path.{_≡_, refl, ap}
 use mathlib.Core.Bool.{Bool, true, false}
@@ -15,9 +15,11 @@ use Rattle.seq.proofs.Parts.{at-every}
 use Rattle.isa.specs.Kinds.{codeLimit, textLeast}
 use Rattle.isa.specs.Features.{allFeatures}
 use Rattle.isa.specs.Operands.{widthBytes}
-use Rattle.isa.specs.Refusal.{statusOf}
+use Rattle.isa.specs.Refusal.{statusOf, reasonOf}
 use Rattle.isa.specs.declared.operands.Mnemonic.{Mnemonic}
 use Rattle.isa.specs.declared.operands.Width.{Width}
+use Rattle.isa.specs.declared.refusal.Field.{Field}
+use Rattle.isa.specs.declared.refusal.Field.the-variants.{FixedBits, W, Vvvv, Broadcast, Zeroing}
 use Rattle.isa.specs.declared.refusal.Refusal.{Refusal}
 use Rattle.isa.specs.declared.refusal.Refusal.the-variants.{Argument, Truncated, Unlisted, Reserved, Feature, MemoryLength, Unmappable, TooLong, BadEntry}
 use Rattle.isa.proofs.Sizes.{width-lanes}
@@ -28,10 +30,11 @@ use Rattle.decode.specs.declared.instruction.Decoded.{Decoded}
 use Rattle.run.specs.Split.{Split, stopped, followed}
 use Rattle.run.specs.declared.Answer.{Answer}
 use Rattle.run.proofs.Splits.{cut, First, nothing, refused, goes, first, empty-cut, zero-cut}
-use Rattle.listing.specs.Text.{ascii, digit, decimal}
-use Rattle.listing.specs.Listing.{headings, names, field, nameText, lineText, acceptedLine, refusedLine, listedSplit, stepLines, lastLine, listingText, refusedListing, listingOf}
+use Rattle.listing.specs.Text.{ascii, digit, digits, decimal}
+use Rattle.listing.specs.Listing.{headings, names, field, nameText, reasonText, lineText, acceptedLine, refusedLine, listedSplit, stepLines, lastLine, listingText, refusedListing, listingOf}
 use Rattle.listing.specs.declared.Line.{Line}
 use Rattle.listing.proofs.Numbers.{below-ten, from-ten}
+use Rattle.listing.proofs.Reasons.{no-reason}
 
 -- a number below 10 to the k + 1 has at most k + 1 digits
 digits-most : (k n : ℕ) → n < 10 ^ suc k → length (decimal n) ≤ suc k
@@ -44,7 +47,7 @@ digits-most (suc k) n h =
     omega (arith, ap length (from-ten n b), length-append (decimal (n / 10)) (digit (n % 10) ∷ []), digits-most k (n / 10) t))
 
 -- a line's length, by the lengths of what is in it
-line-length : (l : Line) → length (lineText l) ≡ length (decimal (l .place)) + length (decimal (l .length)) + length (nameText (l .name)) + length (decimal (l .bits)) + length (decimal (l .status)) + 5
+line-length : (l : Line) → length (lineText l) ≡ length (decimal (l .place)) + length (decimal (l .length)) + length (nameText (l .name)) + length (decimal (l .bits)) + length (decimal (l .status)) + length (reasonText (l .reason)) + 5
 unfolding lineText
 line-length l =
     let p = decimal (l .place) in
@@ -52,9 +55,11 @@ line-length l =
     let t = nameText (l .name) in
     let b = decimal (l .bits) in
     let s = decimal (l .status) in
+    let r = reasonText (l .reason) in
     omega (
       arith,
-      length-append (field p ++ field n ++ field t ++ field b ++ s) (ascii "\n"),
+      length-append (field p ++ field n ++ field t ++ field b ++ s ++ r) (ascii "\n"),
+      length-append (field p ++ field n ++ field t ++ field b ++ s) r,
       length-append (field p ++ field n ++ field t ++ field b) s,
       length-append (field p ++ field n ++ field t) (field b),
       length-append (field p ++ field n) (field t),
@@ -73,20 +78,27 @@ name-most m = by-lt (m .0) (length names)
 bits-most : (w : Width) → 8 * widthBytes w < 1000
 bits-most w = omega (arith, width-lanes w .most)
 
-status-most : (why : Refusal) → statusOf why < 10
-status-most Argument = omega arith
-status-most Truncated = omega arith
-status-most Unlisted = omega arith
-status-most (Reserved field) = omega arith
-status-most Feature = omega arith
-status-most MemoryLength = omega arith
-status-most Unmappable = omega arith
-status-most TooLong = omega arith
-status-most BadEntry = omega arith
+-- a digit, and with the wrong field's number a colon and another
+answer-most : (why : Refusal) → length (decimal (statusOf why)) + length (reasonText (reasonOf why)) ≤ 3
+unfolding decimal digits reasonText
+answer-most Argument = omega arith
+answer-most Truncated = omega arith
+answer-most Unlisted = omega arith
+answer-most (Reserved FixedBits) = omega arith
+answer-most (Reserved W) = omega arith
+answer-most (Reserved Field.Width) = omega arith
+answer-most (Reserved Vvvv) = omega arith
+answer-most (Reserved Broadcast) = omega arith
+answer-most (Reserved Zeroing) = omega arith
+answer-most Feature = omega arith
+answer-most MemoryLength = omega arith
+answer-most Unmappable = omega arith
+answer-most TooLong = omega arith
+answer-most BadEntry = omega arith
 
 -- the most bytes of a line
 abbrev lineMost : ℕ
-lineMost = 25
+lineMost = 27
 
 pub accepted-most : (place : ℕ) (x : Instruction) → place ≤ codeLimit → x .length ≤ 12 → length (lineText (acceptedLine place x)) ≤ lineMost
 accepted-most place x h n =
@@ -98,11 +110,12 @@ accepted-most place x h n =
       name-most (x .mnemonic),
       digits-most 2 (8 * widthBytes (x .width)) (bits-most (x .width)),
       digits-most 0 0 (omega arith),
+      ap length no-reason,
     )
 
 pub refused-most : (place : ℕ) (why : Refusal) → place ≤ codeLimit → length (lineText (refusedLine place why)) ≤ lineMost
 refused-most place why h =
-    omega (arith, line-length (refusedLine place why), digits-most 3 place (omega arith), digits-most 0 0 (omega arith), digits-most 0 (statusOf why) (status-most why))
+    omega (arith, line-length (refusedLine place why), digits-most 3 place (omega arith), digits-most 0 0 (omega arith), answer-most why)
 
 -- ---- the lines of a list: the steps', and the refusal's
 
@@ -155,7 +168,7 @@ bounded (suc k) place code h = by (first (λ x. true) Argument allFeatures code)
     by : First (λ x. true) Argument allFeatures code → ((p : ℕ) (l : List ℕ) → p + length l ≤ codeLimit → Bounded p l (cut (λ x. true) Argument allFeatures k l))
         → Bounded place code (cut (λ x. true) Argument allFeatures (suc k) code)
     by (nothing e) ih = rw (empty-cut (λ x. true) Argument allFeatures (suc k) code e) (at-end place code)
-    by (refused r f) ih =
+    by (refused r o f) ih =
         by-lt 0 (length code)
         (λ b. rw (f k) (at-refusal place code r b (omega arith)))
         (λ b. rw (empty-cut (λ x. true) Argument allFeatures (suc k) code (omega arith)) (at-end place code))

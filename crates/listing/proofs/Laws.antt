@@ -1,4 +1,5 @@
--- Rules 8.1, 8.4 and 8.5: the bytes written are the listing, and behind them the text stays as it was. A refused call writes none.
+-- Rules 8.1, 8.2, 8.4 and 8.5: the bytes written are the listing, and behind them the text stays as it was. A refused call writes none. A refused
+-- step has decoding's refusal.
 use Prim.Native.Nat.{ℕ}
 use mathlib.Core.Path.{_≡_, refl, sym}
 use mathlib.Core.Bool.{Bool, true, false}
@@ -8,10 +9,14 @@ use lib.ListN.{length, take, drop}
 use store.Seg.{drop-pre, take-pre}
 use Rattle.seq.specs.Choice.{if_then_else_}
 use Rattle.isa.specs.Kinds.{codeLimit, textLeast}
+use Rattle.isa.specs.Features.{allFeatures}
+use Rattle.isa.specs.declared.refusal.Refusal.{Refusal}
 use Rattle.isa.specs.declared.refusal.Refusal.the-variants.{Argument, TooLong}
+use Rattle.decode.specs.Decode.{decodeOf}
+use Rattle.decode.specs.declared.instruction.Decoded.{Decoded}
 use Rattle.run.specs.declared.Answer.{Answer}
-use Rattle.run.proofs.Splits.{no-done}
-use Rattle.listing.specs.Listing.{listingText, refusedListing, listingOf, textAfter}
+use Rattle.run.proofs.Splits.{no-done, refused-as-decoded}
+use Rattle.listing.specs.Listing.{listedSplit, listingText, refusedListing, listingOf, textAfter}
 use Rattle.listing.specs.declared.Listed.{Listed}
 
 module _ (code text : List ℕ) where
@@ -39,3 +44,8 @@ module _ (code text : List ℕ) where
       by true true = drop-pre (listingText code) (drop (length (listingText code)) text)
       by true false = refl
       by false u = refl
+
+-- rule 8.2: the line of a refused step has the refusal that decoding gives for the bytes from its place on
+pub last-line-as-decoded : (code : List ℕ) (why : Refusal) → (why ≡ Argument → ⊥) → listedSplit code .answer ≡ Answer.Refused why → decodeOf (drop (listedSplit code .place) code) allFeatures ≡ Decoded.Refused why
+unfolding listedSplit
+last-line-as-decoded code why nay e = refused-as-decoded (λ x. true) Argument allFeatures (length code) code why nay e

@@ -2,6 +2,7 @@
 mod Puts
 mod Names
 mod Numbers
+mod Reasons
 mod Lines
 pub mod Bounds
 pub mod Laws

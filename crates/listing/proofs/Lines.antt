@@ -9,7 +9,7 @@ use lib.ListN.{length, drop, length-append}
 use Rattle.isa.specs.Features.{allFeatures}
 use Rattle.isa.specs.Operands.{mnemonicOf, widthBytes}
 use Rattle.isa.specs.declared.operands.Mnemonic.{Mnemonic}
-use Rattle.isa.specs.Refusal.{statusOf}
+use Rattle.isa.specs.Refusal.{statusOf, reasonOf}
 use Rattle.isa.specs.declared.refusal.Refusal.{Refusal}
 use Rattle.isa.specs.declared.refusal.Refusal.the-variants.{Argument}
 use Rattle.decode.specs.Decode.{decodeOf}
@@ -25,11 +25,12 @@ use Rattle.listing.proofs.Puts.{Put, length-put, put-nothing, and-then}
 -- the line of a decoding, as the function makes it from what its callees gave
 module _ (place : ℕ) (d : Decoded) (k : ℕ) where
   pub accepted-line : (x : Instruction) → d ≡ Decoded.Accepted x → k ≡ widthBytes (x .width)
-      → record { place = place; length = x .length; name = x .mnemonic; bits = 8 * k; status = 0 } ≡ lineOf place d
+      → record { place = place; length = x .length; name = x .mnemonic; bits = 8 * k; status = 0; reason = 0 } ≡ lineOf place d
   accepted-line x p e = rw (p, e)
 
-  pub refused-line : (why : Refusal) → d ≡ Decoded.Refused why → k ≡ statusOf why → (m : Mnemonic) → m ≡ mnemonicOf 0 → record { place = place; length = 0; name = m; bits = 0; status = k } ≡ lineOf place d
-  refused-line why p e m q = rw (p, e, q)
+  pub refused-line : (why : Refusal) → d ≡ Decoded.Refused why → k ≡ statusOf why → (r : ℕ) → r ≡ reasonOf why → (m : Mnemonic) → m ≡ mnemonicOf 0
+      → record { place = place; length = 0; name = m; bits = 0; status = k; reason = r } ≡ lineOf place d
+  refused-line why p e r g m q = rw (p, e, g, q)
 
 -- the text is the headings and the lines from the start on
 pub text-is : (code : List ℕ) → listingText code ≡ headings ++ linesFrom code 0

@@ -1,14 +1,14 @@
--- Rules 8.1 to 8.5: a list of instructions as text. Headings, a line for each step, and a line for the refusal if there is one.
+-- Rules 8.1 to 8.5, with request 3: a list of instructions as text. Headings, a line for each step, and a line for the refusal if there is one.
 use Prim.Native.Nat.{ℕ, _+_, _*_}
 use mathlib.Core.Bool.{true}
 use mathlib.Core.List.{List, [], _∷_, _++_}
-use lib.Dec.{leb}
+use lib.Dec.{eqb, leb}
 use lib.ListN.{length, getD, drop}
 use Rattle.seq.specs.Choice.{if_then_else_}
 use Rattle.isa.specs.Kinds.{codeLimit, textLeast}
 use Rattle.isa.specs.Features.{allFeatures}
 use Rattle.isa.specs.Operands.{mnemonicNumber, none, widthBytes}
-use Rattle.isa.specs.Refusal.{statusOf}
+use Rattle.isa.specs.Refusal.{statusOf, reasonOf}
 use Rattle.isa.specs.declared.operands.Mnemonic.{Mnemonic}
 use Rattle.isa.specs.declared.refusal.Refusal.{Refusal}
 use Rattle.isa.specs.declared.refusal.Refusal.the-variants.{Argument, TooLong}
@@ -45,17 +45,27 @@ nameText m = getD names (mnemonicNumber m) (ascii "-")
 abbrev pub field : List ℕ → List ℕ
 field text = text ++ ascii "\t"
 
+-- request 3: behind an answer 4 a colon and the number of the wrong field. No other answer has a reason
+unfoldable pub reasonText : ℕ → List ℕ
+reasonText reason = if eqb reason 0 then [] else ascii ":" ++ decimal reason
+
 unfoldable pub lineText : Line → List ℕ
 lineText l =
-    field (decimal (l .place)) ++ field (decimal (l .length)) ++ field (nameText (l .name)) ++ field (decimal (l .bits)) ++ decimal (l .status) ++ ascii "\n"
+    field (decimal (l .place))
+    ++ field (decimal (l .length))
+    ++ field (nameText (l .name))
+    ++ field (decimal (l .bits))
+    ++ decimal (l .status)
+    ++ reasonText (l .reason)
+    ++ ascii "\n"
 
 -- a step that decodes
 abbrev pub acceptedLine : ℕ → Instruction → Line
-acceptedLine place x = record { place = place; length = x .length; name = x .mnemonic; bits = 8 * widthBytes (x .width); status = 0 }
+acceptedLine place x = record { place = place; length = x .length; name = x .mnemonic; bits = 8 * widthBytes (x .width); status = 0; reason = 0 }
 
 -- the step that is refused
 abbrev pub refusedLine : ℕ → Refusal → Line
-refusedLine place why = record { place = place; length = 0; name = none; bits = 0; status = statusOf why }
+refusedLine place why = record { place = place; length = 0; name = none; bits = 0; status = statusOf why; reason = reasonOf why }
 
 -- rule 8.2: every step that decodes is wanted, memory or not, so that Argument is not given here
 unfoldable pub listedSplit : List ℕ → Split

@@ -5,7 +5,7 @@ ghost use Prim.Native.Nat.{_+_, _<_, _≤_};
 ghost use lib.ListN.{length, take};
 ghost use Rattle.listing.specs.Text.{decimal};
 ghost use Rattle.listing.specs.Inner.{putAt, nameAt, lineOf, linesFrom};
-ghost use Rattle.listing.specs.Listing.{names, field, nameText, lineText, refusedListing, listingOf, textAfter};
+ghost use Rattle.listing.specs.Listing.{names, field, nameText, reasonText, lineText, refusedListing, listingOf, textAfter};
 use decode::instruction::Decoded;
 use decode::instruction::Instruction;
 use isa::features::Features;
@@ -23,6 +23,8 @@ pub struct Line {
     pub name: Mnemonic,
     pub bits: u32,
     pub status: u32,
+    // Of the wrong field where status is 4, else 0.
+    pub reason: u32,
 }
 
 pub struct Listed {
@@ -119,6 +121,18 @@ fn put_name(text: &mut [u8], at: usize, name: Mnemonic) -> usize
     put_all(text, at, &row[0..size])
 }
 
+// What stands behind an answer: a colon and the reason, if there is one.
+fn put_reason(text: &mut [u8], at: usize, reason: u32) -> usize
+    requires { ⌜ at + length (reasonText reason) ≤ length (now text) ⌝ }
+    ensures { λ r. ⌜ (r ≡ at + length (reasonText reason)) × (now (text .exit) ≡ putAt (now (text .entry)) at (reasonText reason)) ⌝ }
+{
+    if reason == 0 {
+        return at;
+    }
+    let after_colon = put(text, at, b':');
+    put_number(text, after_colon, reason as usize)
+}
+
 fn put_line(text: &mut [u8], at: usize, line: Line) -> usize
     requires { ⌜ at + length (lineText line) ≤ length (now text) ⌝ }
     ensures { λ r. ⌜ (r ≡ at + length (lineText line)) × (now (text .exit) ≡ putAt (now (text .entry)) at (lineText line)) ⌝ }
@@ -129,7 +143,8 @@ fn put_line(text: &mut [u8], at: usize, line: Line) -> usize
     let after_name = put_name(text, after_length, name);
     let after_bits = put_field(text, after_name, line.bits as usize);
     let after_status = put_number(text, after_bits, line.status as usize);
-    put(text, after_status, b'\n')
+    let after_reason = put_reason(text, after_status, line.reason);
+    put(text, after_reason, b'\n')
 }
 
 fn line_of(place: usize, decoded: Decoded) -> Line
@@ -145,6 +160,7 @@ fn line_of(place: usize, decoded: Decoded) -> Line
                 name: mnemonic,
                 bits: 8 * width.bytes() as u32,
                 status: 0,
+                reason: 0,
             }
         }
         Decoded::Refused(why) => Line {
@@ -153,6 +169,7 @@ fn line_of(place: usize, decoded: Decoded) -> Line
             name: Mnemonic::of(Mnemonic::NONE),
             bits: 0,
             status: why.status(),
+            reason: why.reason(),
         },
     }
 }

@@ -36,7 +36,7 @@ module _ (wanted : Instruction → Bool) (why : Refusal) (features : ℕ) where
   -- a split's first step: none is left, it is refused, or it is x
   pub data First (code : List ℕ) : Type 0 where
     nothing : length code ≡ 0 → First code
-    refused : (r : Refusal) → ((k : ℕ) → cut (suc k) code ≡ stopped (Answer.Refused r)) → First code
+    refused : (r : Refusal) → ((r ≡ why → ⊥) → decodeOf code features ≡ Decoded.Refused r) → ((k : ℕ) → cut (suc k) code ≡ stopped (Answer.Refused r)) → First code
     goes : (x : Instruction) → decodeOf code features ≡ Decoded.Accepted x → wanted x ≡ true → ((k : ℕ) → cut (suc k) code ≡ followed x (cut k (drop (x .length) code))) → First code
 
   pub first : (code : List ℕ) → First code
@@ -44,11 +44,11 @@ module _ (wanted : Instruction → Bool) (why : Refusal) (features : ℕ) where
     where
       chosen : (x : Instruction) → eqb (length code) 0 ≡ false → decodeOf code features ≡ Decoded.Accepted x → (t : Bool) → wanted x ≡ t → First code
       chosen x p q true w = goes x q w (λ k. unfold split in rw (p, q, w))
-      chosen x p q false w = refused why (λ k. unfold split in rw (p, q, w))
+      chosen x p q false w = refused why (λ nay. absurd (nay refl)) (λ k. unfold split in rw (p, q, w))
 
       by : (t : Bool) → eqb (length code) 0 ≡ t → (d : Decoded) → decodeOf code features ≡ d → First code
       by true p d q = nothing (eqb-true (length code) 0 p)
-      by false p (Decoded.Refused r) q = refused r (λ k. unfold split in rw (p, q))
+      by false p (Decoded.Refused r) q = refused r (λ nay. q) (λ k. unfold split in rw (p, q))
       by false p (Decoded.Accepted x) q = chosen x p q (wanted x) refl
 
   pub empty-cut : (k : ℕ) (code : List ℕ) → length code ≡ 0 → cut k code ≡ stopped Answer.Done
@@ -85,7 +85,7 @@ module _ (wanted : Instruction → Bool) (why : Refusal) (features : ℕ) where
     where
       by : First code → ((l : List ℕ) → Counted l (cut k l)) → Counted code (cut (suc k) code)
       by (nothing e) ih = rw (empty-cut (suc k) code e) (count-stopped code Answer.Done)
-      by (refused r f) ih = rw (f k) (count-stopped code (Answer.Refused r))
+      by (refused r o f) ih = rw (f k) (count-stopped code (Answer.Refused r))
       by (goes x d w f) ih = rw (f k) (count-goes code x (cut k (drop (x .length) code)) d (ih (drop (x .length) code)))
 
   -- ---- a quarter of the length is fuel enough: more changes nothing, and the end or a refusal is reached
@@ -99,7 +99,7 @@ module _ (wanted : Instruction → Bool) (why : Refusal) (features : ℕ) where
     where
       by : First code → ((l : List ℕ) → length l ≤ 4 * k → cut (k + j) l ≡ cut k l) → cut (suc (k + j)) code ≡ cut (suc k) code
       by (nothing e) ih = empty-cut (suc (k + j)) code e ∙ sym (empty-cut (suc k) code e)
-      by (refused r f) ih = f (k + j) ∙ sym (f k)
+      by (refused r o f) ih = f (k + j) ∙ sym (f k)
       by (goes x d w f) ih = f (k + j) ∙ ap (followed x) (ih (drop (x .length) code) (shorter code x k d h)) ∙ sym (f k)
 
   -- a split that stopped by itself: at the end of the list, or at a refusal
@@ -112,7 +112,7 @@ module _ (wanted : Instruction → Bool) (why : Refusal) (features : ℕ) where
     where
       by : First code → ((l : List ℕ) → length l ≤ 4 * k → Settled l (cut k l)) → Settled code (cut (suc k) code)
       by (nothing e) ih = rw (empty-cut (suc k) code e) (λ q. omega arith)
-      by (refused r f) ih = rw (f k) (λ q. absurd (no-done r q))
+      by (refused r o f) ih = rw (f k) (λ q. absurd (no-done r q))
       by (goes x d w f) ih =
           rw (f k) (λ q.
           let n = accepted-size code features x d in
@@ -133,7 +133,7 @@ module _ (wanted : Instruction → Bool) (why : Refusal) (features : ℕ) where
       by : First code → ((l : List ℕ) → cut n l .answer ≡ Answer.Done → cut (n + m) l ≡ joined (cut n l) (cut m (drop (cut n l .place) l)))
           → cut (suc n) code .answer ≡ Answer.Done → cut (suc (n + m)) code ≡ joined (cut (suc n) code) (cut m (drop (cut (suc n) code .place) code))
       by (nothing q) ih e = rw (empty-cut (suc (n + m)) code q, empty-cut (suc n) code q) (sym (joined-nothing Answer.Done (cut m code) ∙ empty-cut m code q))
-      by (refused r f) ih e = absurd (no-done r (rw (f n) at e))
+      by (refused r o f) ih e = absurd (no-done r (rw (f n) at e))
       by (goes x d w f) ih e =
           let l = drop (x .length) code in
           rw (f (n + m), f n, ih l (rw (f n) at e), drop-drop (cut n l .place) (x .length) code) (followed-joined x (cut n l) (cut m (drop (x .length + cut n l .place) code)))
@@ -144,8 +144,23 @@ module _ (wanted : Instruction → Bool) (why : Refusal) (features : ℕ) where
     where
       by : First code → ((l : List ℕ) → cut n l .answer ≡ Answer.Refused r → cut (n + m) l ≡ cut n l) → cut (suc n) code .answer ≡ Answer.Refused r → cut (suc (n + m)) code ≡ cut (suc n) code
       by (nothing q) ih e = absurd (no-done r (sym (rw (empty-cut (suc n) code q) at e)))
-      by (refused s f) ih e = f (n + m) ∙ sym (f n)
+      by (refused s o f) ih e = f (n + m) ∙ sym (f n)
       by (goes x d w f) ih e = f (n + m) ∙ ap (followed x) (ih (drop (x .length) code) (rw (f n) at e)) ∙ sym (f n)
+
+  -- a refusal that is not `why` is decoding's, of the bytes from the place on
+  pub refused-as-decoded : (n : ℕ) (code : List ℕ) (r : Refusal) → (r ≡ why → ⊥) → cut n code .answer ≡ Answer.Refused r → decodeOf (drop (cut n code .place) code) features ≡ Decoded.Refused r
+  refused-as-decoded zero code r nay e = absurd (no-done r (sym (unfold split in e)))
+  refused-as-decoded (suc n) code r nay e = by (first code) (λ l. refused-as-decoded n l r nay) e
+    where
+      by : First code → ((l : List ℕ) → cut n l .answer ≡ Answer.Refused r → decodeOf (drop (cut n l .place) l) features ≡ Decoded.Refused r)
+          → cut (suc n) code .answer ≡ Answer.Refused r → decodeOf (drop (cut (suc n) code .place) code) features ≡ Decoded.Refused r
+      by (nothing q) ih e = absurd (no-done r (sym (rw (empty-cut (suc n) code q) at e)))
+      by (refused s o f) ih e =
+          let z : s ≡ r = (let g : Answer.Refused s ≡ Answer.Refused r = rw (f n) at e in cc) in
+          rw (f n, ← z) (o (λ h. nay (sym z ∙ h)))
+      by (goes x d w f) ih e =
+          let l = drop (x .length) code in
+          rw (f n, ← drop-drop (cut n l .place) (x .length) code) (ih l (rw (f n) at e))
 
   -- ---- a list that is split to its end, followed by another
 
@@ -158,7 +173,7 @@ module _ (wanted : Instruction → Bool) (why : Refusal) (features : ℕ) where
       by : First a → ((l : List ℕ) → cut n l .answer ≡ Answer.Done → cut n l .place ≡ length l → cut (length (cut n l .instructions) + m) (l ++ b) ≡ joined (cut n l) (cut m b))
           → cut (suc n) a .answer ≡ Answer.Done → cut (suc n) a .place ≡ length a → cut (length (cut (suc n) a .instructions) + m) (a ++ b) ≡ joined (cut (suc n) a) (cut m b)
       by (nothing q) ih e p = rw (empty-cut (suc n) a q, empty-is a q, zero-add m) (sym (joined-nothing Answer.Done (cut m b)))
-      by (refused r f) ih e p = absurd (no-done r (rw (f n) at e))
+      by (refused r o f) ih e p = absurd (no-done r (rw (f n) at e))
       by (goes x d w f) ih e p =
           let l = drop (x .length) a in
           let k = length (cut n l .instructions) in

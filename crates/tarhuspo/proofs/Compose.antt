@@ -7,7 +7,7 @@ use native.Mathlib.Omega.{arith}
 use mir.Val.{Fits}
 use mir.Syntax.{w32}
 use Rattle.isa.specs.Operands.{mnemonicNumber, widthBytes}
-use Rattle.isa.specs.Refusal.{statusOf}
+use Rattle.isa.specs.Refusal.{statusOf, reasonOf}
 use Rattle.isa.specs.declared.refusal.Refusal.{Refusal}
 use Rattle.decode.specs.Instruction.{wantedOf}
 use Rattle.decode.specs.Decode.{decodeOf}
@@ -23,16 +23,16 @@ use Rattle.tarhuspo.specs.declared.TarhuspoStepped.{TarhuspoStepped}
 use Rattle.tarhuspo.specs.Decoded.{encodingNumber, firstNumber, thirdNumber, hasImmediate, immediateNumber, flag, acceptedOf, refusedOf, decodedOf}
 use Rattle.tarhuspo.specs.declared.TarhuspoDecoded.{TarhuspoDecoded}
 
-pub refused-is : (why : Refusal) (s : ℕ) → s ≡ statusOf why
-    → _≡_ {A = TarhuspoDecoded} (record { status = s; length = 0; memory = 0; mnemonic = 0; bits = 0; evex = 0; destination = 0; first = 0; third = 0; mask = 0; zeroing = 0; broadcast = 0; «has_immediate» = 0; immediate = 0 }) (refusedOf why)
+pub refused-is : (why : Refusal) (s r : ℕ) → s ≡ statusOf why → r ≡ reasonOf why
+    → _≡_ {A = TarhuspoDecoded} (record { status = s; length = 0; memory = 0; mnemonic = 0; bits = 0; evex = 0; destination = 0; first = 0; third = 0; mask = 0; zeroing = 0; broadcast = 0; «has_immediate» = 0; immediate = 0; reason = r }) (refusedOf why)
 unfolding refusedOf
-refused-is why s p = rw p
+refused-is why s r p q = rw (p, q)
 
 pub accepted-is : (i : Instruction) (n m a b e d f t k z c h v : ℕ)
     → m ≡ wantedOf (i .third) → a ≡ mnemonicNumber (i .mnemonic) → b ≡ widthBytes (i .width) → e ≡ encodingNumber (i .encoding) → d ≡ i .destination .0
     → f ≡ firstNumber (i .first) → t ≡ thirdNumber (i .third) → k ≡ i .mask .0 → z ≡ flag (i .zeroing) → c ≡ flag (i .broadcast)
     → h ≡ hasImmediate (i .immediate) → v ≡ immediateNumber (i .immediate)
-    → _≡_ {A = TarhuspoDecoded} (record { status = 0; length = n; memory = m; mnemonic = a; bits = b * 8; evex = e; destination = d; first = f; third = t; mask = k; zeroing = z; broadcast = c; «has_immediate» = h; immediate = v }) (acceptedOf i n)
+    → _≡_ {A = TarhuspoDecoded} (record { status = 0; length = n; memory = m; mnemonic = a; bits = b * 8; evex = e; destination = d; first = f; third = t; mask = k; zeroing = z; broadcast = c; «has_immediate» = h; immediate = v; reason = 0 }) (acceptedOf i n)
 unfolding acceptedOf
 accepted-is i n m a b e d f t k z c h v pm pa pb pe pd pf pt pk pz pc ph pv = rw (pm, pa, pb, pe, pd, pf, pt, pk, pz, pc, ph, pv)
 
@@ -53,9 +53,9 @@ module _ (code masks : List ℕ) (features : ℕ) (memory file : List ℕ) (k : 
       record { fits = omega (arith, accepted-size code features (d .x) (d .decoded) .most, d .size) }
 
   pub steps : (n : ℕ) → k ≡ Stepped.Done n
-      → _≡_ {A = TarhuspoStepped} (record { status = 0; length = n }) (steppedOf (stepOf code (length file) (length masks) features (length memory)))
+      → _≡_ {A = TarhuspoStepped} (record { status = 0; length = n; reason = 0 }) (steppedOf (stepOf code (length file) (length masks) features (length memory)))
   steps n q = rw (← p, q)
 
-  pub refuses : (why : Refusal) → k ≡ Stepped.Refused why → (s : ℕ) → s ≡ statusOf why
-      → _≡_ {A = TarhuspoStepped} (record { status = s; length = 0 }) (steppedOf (stepOf code (length file) (length masks) features (length memory)))
-  refuses why q s e = rw (← p, q, e)
+  pub refuses : (why : Refusal) → k ≡ Stepped.Refused why → (s r : ℕ) → s ≡ statusOf why → r ≡ reasonOf why
+      → _≡_ {A = TarhuspoStepped} (record { status = s; length = 0; reason = r }) (steppedOf (stepOf code (length file) (length masks) features (length memory)))
+  refuses why q s r e g = rw (← p, q, e, g)

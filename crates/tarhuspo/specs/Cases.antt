@@ -1,13 +1,13 @@
--- Rules 5.1, 5.12, 5.13, 6.5 and 7.5 as C sees them: the number of each refusal in every answer, and worked cases' decodings with their fields in the
+-- Rules 5.1, 5.12, 5.13, 6.5 and 7.5 as C sees them: the number of each refusal in every answer, with that of the wrong field (rule 5.11), and worked cases' decodings with their fields in the
 -- struct's order. All are proved by computing.
 use Prim.Native.Nat.{ℕ}
 use mathlib.Core.Path.{_≡_, refl}
-use mathlib.Core.List.{List, [], _∷_, map}
+use mathlib.Core.List.{List, [], _∷_, _++_, map}
 use lib.ListN.{replicate}
 use Rattle.isa.specs.Features.{hasFeature}
 use Rattle.isa.specs.Operands.{widthOf, elementOf, digitsOf, halfOf, moveFrom, controlOf}
 use Rattle.isa.specs.Table.{rows, findIn, matchesRow, matchesW}
-use Rattle.isa.specs.declared.refusal.Field.the-variants.{Vvvv}
+use Rattle.isa.specs.declared.refusal.Field.the-variants.{FixedBits, W, Width, Vvvv, Broadcast, Zeroing}
 use Rattle.isa.specs.declared.refusal.Refusal.{Refusal}
 use Rattle.isa.specs.declared.refusal.Refusal.the-variants.{Argument, Truncated, Unlisted, Reserved, Feature, MemoryLength, Unmappable, TooLong, BadEntry}
 use Rattle.decode.specs.Prefix.{prefixSize, prefixOf, fixedBits, headOf}
@@ -20,7 +20,7 @@ use Rattle.step.specs.declared.Stepped.{Stepped}
 use Rattle.run.specs.declared.Answer.{Answer}
 use Rattle.tarhuspo.specs.Decoded.{acceptedOf, refusedOf, decodedOf}
 use Rattle.tarhuspo.specs.Stepped.{steppedOf}
-use Rattle.tarhuspo.specs.Lists.{answerStatus, ranOf, builtOf, listedOf}
+use Rattle.tarhuspo.specs.Lists.{answerStatus, answerReason, ranOf, builtOf, listedOf}
 use Rattle.tarhuspo.specs.declared.TarhuspoDecoded.{TarhuspoDecoded}
 use Rattle.tarhuspo.specs.declared.TarhuspoStepped.{TarhuspoStepped}
 use Rattle.tarhuspo.specs.declared.TarhuspoRan.{TarhuspoRan}
@@ -31,50 +31,81 @@ use Rattle.tarhuspo.specs.declared.TarhuspoListed.{TarhuspoListed}
 
 abbrev pub decodedFields : TarhuspoDecoded → List ℕ
 decodedFields d =
-    d .status ∷ d .length ∷ d .memory ∷ d .mnemonic ∷ d .bits ∷ d .evex ∷ d .destination ∷ d .first ∷ d .third ∷ d .mask ∷ d .zeroing ∷ d .broadcast ∷ d .«has_immediate» ∷ d .immediate ∷ []
+    d .status ∷ d .length ∷ d .memory ∷ d .mnemonic ∷ d .bits ∷ d .evex ∷ d .destination ∷ d .first ∷ d .third ∷ d .mask ∷ d .zeroing ∷ d .broadcast ∷ d .«has_immediate» ∷ d .immediate ∷ d .reason ∷ []
 
 abbrev pub steppedFields : TarhuspoStepped → List ℕ
-steppedFields s = s .status ∷ s .length ∷ []
+steppedFields s = s .status ∷ s .length ∷ s .reason ∷ []
 
 abbrev pub ranFields : TarhuspoRan → List ℕ
-ranFields r = r .steps ∷ r .place ∷ r .status ∷ []
+ranFields r = r .steps ∷ r .place ∷ r .status ∷ r .reason ∷ []
 
 abbrev pub builtFields : TarhuspoBuilt → List ℕ
-builtFields b = b .place ∷ b .status ∷ []
+builtFields b = b .place ∷ b .status ∷ b .reason ∷ []
 
 abbrev pub listedFields : TarhuspoListed → List ℕ
 listedFields l = l .written ∷ l .status ∷ []
 
 -- ---- refusals
 
--- one of each, in the order of their numbers
+-- one of each in the order of their numbers, and of those for a reserved field one for each field in the order of theirs
 abbrev pub refusals : List Refusal
-refusals = Argument ∷ Truncated ∷ Unlisted ∷ Reserved Vvvv ∷ Feature ∷ MemoryLength ∷ Unmappable ∷ TooLong ∷ BadEntry ∷ []
+refusals =
+    Argument
+    ∷ Truncated
+    ∷ Unlisted
+    ∷ Reserved FixedBits
+    ∷ Reserved W
+    ∷ Reserved Width
+    ∷ Reserved Vvvv
+    ∷ Reserved Broadcast
+    ∷ Reserved Zeroing
+    ∷ Feature
+    ∷ MemoryLength
+    ∷ Unmappable
+    ∷ TooLong
+    ∷ BadEntry
+    ∷ []
 
-abbrev pub numbers : List ℕ
-numbers = 1 ∷ 2 ∷ 3 ∷ 4 ∷ 5 ∷ 6 ∷ 7 ∷ 8 ∷ 9 ∷ []
+-- the number and the reason of each
+abbrev pub numbers : List (ℕ × ℕ)
+numbers =
+    (1, 0)
+    ∷ (2, 0)
+    ∷ (3, 0)
+    ∷ (4, 1)
+    ∷ (4, 2)
+    ∷ (4, 3)
+    ∷ (4, 4)
+    ∷ (4, 5)
+    ∷ (4, 6)
+    ∷ (5, 0)
+    ∷ (6, 0)
+    ∷ (7, 0)
+    ∷ (8, 0)
+    ∷ (9, 0)
+    ∷ []
 
 -- a list's answer: done, and each refusal
 abbrev pub answers : List Answer
 answers = Answer.Done ∷ map Answer.Refused refusals
 
-pub answers-numbered : map answerStatus answers ≡ 0 ∷ numbers
+pub answers-numbered : map (λ (a : Answer). (answerStatus a, answerReason a)) answers ≡ (0, 0) ∷ numbers
 answers-numbered = refl
 
-pub decodings-refused : map (λ (why : Refusal). decodedFields (decodedOf (Decoded.Refused why))) refusals ≡ map (λ (n : ℕ). n ∷ replicate 13 0) numbers
+pub decodings-refused : map (λ (why : Refusal). decodedFields (decodedOf (Decoded.Refused why))) refusals ≡ map (λ (n : ℕ × ℕ). n .0 ∷ replicate 13 0 ++ n .1 ∷ []) numbers
 unfolding refusedOf
 decodings-refused = refl
 
-pub steps-answered : map (λ (s : Stepped). steppedFields (steppedOf s)) (Stepped.Done 7 ∷ map Stepped.Refused refusals) ≡ (0 ∷ 7 ∷ []) ∷ map (λ (n : ℕ). n ∷ 0 ∷ []) numbers
+pub steps-answered : map (λ (s : Stepped). steppedFields (steppedOf s)) (Stepped.Done 7 ∷ map Stepped.Refused refusals) ≡ (0 ∷ 7 ∷ 0 ∷ []) ∷ map (λ (n : ℕ × ℕ). n .0 ∷ 0 ∷ n .1 ∷ []) numbers
 steps-answered = refl
 
-pub runs-answered : map (λ (a : Answer). ranFields (ranOf (record { steps = 2; place = 11; answer = a }))) answers ≡ map (λ (n : ℕ). 2 ∷ 11 ∷ n ∷ []) (0 ∷ numbers)
+pub runs-answered : map (λ (a : Answer). ranFields (ranOf (record { steps = 2; place = 11; answer = a }))) answers ≡ map (λ (n : ℕ × ℕ). 2 ∷ 11 ∷ n .0 ∷ n .1 ∷ []) ((0, 0) ∷ numbers)
 runs-answered = refl
 
-pub builds-answered : map (λ (a : Answer). builtFields (builtOf (record { place = 11; answer = a }))) answers ≡ map (λ (n : ℕ). 11 ∷ n ∷ []) (0 ∷ numbers)
+pub builds-answered : map (λ (a : Answer). builtFields (builtOf (record { place = 11; answer = a }))) answers ≡ map (λ (n : ℕ × ℕ). 11 ∷ n .0 ∷ n .1 ∷ []) ((0, 0) ∷ numbers)
 builds-answered = refl
 
-pub listings-answered : map (λ (a : Answer). listedFields (listedOf (record { written = 24; answer = a }))) answers ≡ map (λ (n : ℕ). 24 ∷ n ∷ []) (0 ∷ numbers)
+pub listings-answered : map (λ (a : Answer). listedFields (listedOf (record { written = 24; answer = a }))) answers ≡ map (λ (n : ℕ × ℕ). 24 ∷ n .0 ∷ []) ((0, 0) ∷ numbers)
 listings-answered = refl
 
 -- ---- decodings: VPERM2F128 ymm1, ymm2, ymm3; VPSHUFD zmm1 from zmm2 under mask 1 with zeroing; VPSHUFD with a broadcast doubleword;
@@ -94,15 +125,15 @@ codes =
     ∷ []
 
 pub decodings-numbered : map (λ (code : List ℕ). decodedFields (decodedOf (decodeOf code 63))) codes
-    ≡ (0 ∷ 6 ∷ 0 ∷ 5 ∷ 256 ∷ 0 ∷ 1 ∷ 2 ∷ 3 ∷ 0 ∷ 0 ∷ 0 ∷ 1 ∷ 0x21 ∷ [])
-    ∷ (0 ∷ 7 ∷ 0 ∷ 4 ∷ 512 ∷ 1 ∷ 1 ∷ 0 ∷ 2 ∷ 1 ∷ 1 ∷ 0 ∷ 1 ∷ 0x1B ∷ [])
-    ∷ (0 ∷ 7 ∷ 4 ∷ 4 ∷ 512 ∷ 1 ∷ 1 ∷ 0 ∷ 0 ∷ 0 ∷ 0 ∷ 1 ∷ 1 ∷ 0 ∷ [])
-    ∷ (0 ∷ 4 ∷ 0 ∷ 3 ∷ 128 ∷ 0 ∷ 1 ∷ 2 ∷ 3 ∷ 0 ∷ 0 ∷ 0 ∷ 0 ∷ 0 ∷ [])
-    ∷ (0 ∷ 6 ∷ 0 ∷ 6 ∷ 128 ∷ 0 ∷ 1 ∷ 0 ∷ 2 ∷ 0 ∷ 0 ∷ 0 ∷ 1 ∷ 0x1B ∷ [])
-    ∷ (0 ∷ 6 ∷ 4 ∷ 7 ∷ 512 ∷ 1 ∷ 1 ∷ 2 ∷ 0 ∷ 0 ∷ 0 ∷ 1 ∷ 0 ∷ 0 ∷ [])
-    ∷ (0 ∷ 4 ∷ 0 ∷ 8 ∷ 128 ∷ 0 ∷ 1 ∷ 2 ∷ 3 ∷ 0 ∷ 0 ∷ 0 ∷ 0 ∷ 0 ∷ [])
-    ∷ (0 ∷ 4 ∷ 0 ∷ 9 ∷ 256 ∷ 0 ∷ 1 ∷ 2 ∷ 3 ∷ 0 ∷ 0 ∷ 0 ∷ 0 ∷ 0 ∷ [])
-    ∷ (0 ∷ 6 ∷ 0 ∷ 10 ∷ 512 ∷ 1 ∷ 1 ∷ 2 ∷ 3 ∷ 1 ∷ 0 ∷ 0 ∷ 0 ∷ 0 ∷ [])
+    ≡ (0 ∷ 6 ∷ 0 ∷ 5 ∷ 256 ∷ 0 ∷ 1 ∷ 2 ∷ 3 ∷ 0 ∷ 0 ∷ 0 ∷ 1 ∷ 0x21 ∷ 0 ∷ [])
+    ∷ (0 ∷ 7 ∷ 0 ∷ 4 ∷ 512 ∷ 1 ∷ 1 ∷ 0 ∷ 2 ∷ 1 ∷ 1 ∷ 0 ∷ 1 ∷ 0x1B ∷ 0 ∷ [])
+    ∷ (0 ∷ 7 ∷ 4 ∷ 4 ∷ 512 ∷ 1 ∷ 1 ∷ 0 ∷ 0 ∷ 0 ∷ 0 ∷ 1 ∷ 1 ∷ 0 ∷ 0 ∷ [])
+    ∷ (0 ∷ 4 ∷ 0 ∷ 3 ∷ 128 ∷ 0 ∷ 1 ∷ 2 ∷ 3 ∷ 0 ∷ 0 ∷ 0 ∷ 0 ∷ 0 ∷ 0 ∷ [])
+    ∷ (0 ∷ 6 ∷ 0 ∷ 6 ∷ 128 ∷ 0 ∷ 1 ∷ 0 ∷ 2 ∷ 0 ∷ 0 ∷ 0 ∷ 1 ∷ 0x1B ∷ 0 ∷ [])
+    ∷ (0 ∷ 6 ∷ 4 ∷ 7 ∷ 512 ∷ 1 ∷ 1 ∷ 2 ∷ 0 ∷ 0 ∷ 0 ∷ 1 ∷ 0 ∷ 0 ∷ 0 ∷ [])
+    ∷ (0 ∷ 4 ∷ 0 ∷ 8 ∷ 128 ∷ 0 ∷ 1 ∷ 2 ∷ 3 ∷ 0 ∷ 0 ∷ 0 ∷ 0 ∷ 0 ∷ 0 ∷ [])
+    ∷ (0 ∷ 4 ∷ 0 ∷ 9 ∷ 256 ∷ 0 ∷ 1 ∷ 2 ∷ 3 ∷ 0 ∷ 0 ∷ 0 ∷ 0 ∷ 0 ∷ 0 ∷ [])
+    ∷ (0 ∷ 6 ∷ 0 ∷ 10 ∷ 512 ∷ 1 ∷ 1 ∷ 2 ∷ 3 ∷ 1 ∷ 0 ∷ 0 ∷ 0 ∷ 0 ∷ 0 ∷ [])
     ∷ []
 unfolding acceptedOf decodeOf knownOf onHead onRow onTotal finishOf headOf prefixSize prefixOf fixedBits rows findIn matchesRow matchesW sibSize displacementSize checkOf wrongW wrongWidth wrongVvvv wrongBroadcast wrongZeroing enoughOf neededOf hasFeature instructionOf encodingOf firstOf thirdOf immediateOf widthOf elementOf digitsOf halfOf moveFrom controlOf
 decodings-numbered = refl

@@ -1,9 +1,10 @@
--- Rule 5.12: a decoding as the C interface gives it, the answer's number (rule 5.1) and the operands as numbers. A refusal has its answer alone.
+-- Rule 5.12: a decoding as the C interface gives it, the answer's number (rule 5.1) and the operands as numbers. A refusal has its answer alone, and
+-- with 4 the number of the wrong field (rule 5.11, request 3).
 use Prim.Native.Nat.{ℕ, _*_}
 use mathlib.Core.Bool.{Bool}
 use Rattle.seq.specs.Choice.{if_then_else_}
 use Rattle.isa.specs.Operands.{mnemonicNumber, widthBytes}
-use Rattle.isa.specs.Refusal.{statusOf}
+use Rattle.isa.specs.Refusal.{statusOf, reasonOf}
 use Rattle.isa.specs.declared.operands.Encoding.{Encoding}
 use Rattle.isa.specs.declared.operands.Encoding.the-variants.{Vex, Evex}
 use Rattle.isa.specs.declared.refusal.Refusal.{Refusal}
@@ -56,6 +57,7 @@ acceptedOf i length =
       broadcast = flag (i .broadcast);
       «has_immediate» = hasImmediate (i .immediate);
       immediate = immediateNumber (i .immediate);
+      reason = 0;
     }
 
 unfoldable pub refusedOf : Refusal → TarhuspoDecoded
@@ -75,6 +77,7 @@ refusedOf why =
       broadcast = 0;
       «has_immediate» = 0;
       immediate = 0;
+      reason = reasonOf why;
     }
 
 abbrev pub decodedOf : Decoded → TarhuspoDecoded

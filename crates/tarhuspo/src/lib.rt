@@ -8,7 +8,7 @@ ghost use Rattle.bytemap.specs.Build.{buildOf, mapBuilt};
 ghost use Rattle.bytemap.specs.ByteMap.{applyOf, fileApplied, composeOf, mapComposed};
 ghost use Rattle.tarhuspo.specs.Stepped.{steppedOf};
 ghost use Rattle.listing.specs.Listing.{listingOf, textAfter};
-ghost use Rattle.tarhuspo.specs.Lists.{answerStatus, ranOf, builtOf, listedOf};
+ghost use Rattle.tarhuspo.specs.Lists.{answerStatus, answerReason, ranOf, builtOf, listedOf};
 ghost use Rattle.tarhuspo.specs.Decoded.{encodingNumber, firstNumber, thirdNumber, hasImmediate, immediateNumber, flag, acceptedOf, refusedOf, decodedOf};
 use decode::instruction::Decoded;
 use decode::instruction::First;
@@ -21,7 +21,8 @@ use isa::refusal::Refusal;
 use run::Answer;
 use step::Stepped;
 
-// tarhuspo_decoded. All fields but status are 0 where status is not 0.
+// tarhuspo_decoded. All fields but status and reason are 0 where status is not 0. The reason is the wrong field's number
+// where status is 4, and 0 otherwise, here and below.
 #[repr(C)]
 pub struct TarhuspoDecoded {
     pub status: u32,
@@ -38,6 +39,7 @@ pub struct TarhuspoDecoded {
     pub broadcast: u32,
     pub has_immediate: u32,
     pub immediate: u32,
+    pub reason: u32,
 }
 
 fn evex_of(encoding: Encoding) -> u32
@@ -117,6 +119,7 @@ fn accepted(i: Instruction, length: u32) -> TarhuspoDecoded
         broadcast: flag_of(i.broadcast),
         has_immediate: has_immediate(immediate),
         immediate: immediate_of(immediate),
+        reason: 0,
     }
 }
 
@@ -138,6 +141,7 @@ fn refused(why: Refusal) -> TarhuspoDecoded
         broadcast: 0,
         has_immediate: 0,
         immediate: 0,
+        reason: why.reason(),
     }
 }
 
@@ -160,6 +164,7 @@ pub extern "C" fn tarhuspo_decode(code: &[u8], features: u32) -> TarhuspoDecoded
 pub struct TarhuspoStepped {
     pub status: u32,
     pub length: u32,
+    pub reason: u32,
 }
 
 #[no_mangle]
@@ -176,10 +181,12 @@ pub extern "C" fn tarhuspo_step(
         Stepped::Done(length) => TarhuspoStepped {
             status: 0,
             length: length as u32,
+            reason: 0,
         },
         Stepped::Refused(why) => TarhuspoStepped {
             status: why.status(),
             length: 0,
+            reason: why.reason(),
         },
     }
 }
@@ -193,12 +200,22 @@ fn status_of(answer: Answer) -> u32
     }
 }
 
+fn reason_of(answer: Answer) -> u32
+    ensures { λ r. ⌜ r ≡ answerReason answer ⌝ }
+{
+    match answer {
+        Answer::Done => 0,
+        Answer::Refused(why) => why.reason(),
+    }
+}
+
 // tarhuspo_ran
 #[repr(C)]
 pub struct TarhuspoRan {
     pub steps: u64,
     pub place: u64,
     pub status: u32,
+    pub reason: u32,
 }
 
 #[no_mangle]
@@ -217,6 +234,7 @@ pub extern "C" fn tarhuspo_run(
         steps: ran.steps,
         place: ran.place as u64,
         status: status_of(answer),
+        reason: reason_of(answer),
     }
 }
 
@@ -225,6 +243,7 @@ pub extern "C" fn tarhuspo_run(
 pub struct TarhuspoBuilt {
     pub place: u64,
     pub status: u32,
+    pub reason: u32,
 }
 
 #[no_mangle]
@@ -241,6 +260,7 @@ pub extern "C" fn tarhuspo_bytemap_build(
     TarhuspoBuilt {
         place: built.place as u64,
         status: status_of(answer),
+        reason: reason_of(answer),
     }
 }
 

@@ -20,17 +20,17 @@ use Rattle.vectors.specs.Digest.{digestOf}
 use Rattle.vectors.specs.declared.digest.Digest.{Digest}
 use Rattle.vectors.specs.declared.calls.Entry.{Entry}
 use Rattle.vectors.specs.declared.calls.Line.{Line}
-use Rattle.vectors.specs.declared.calls.Line.the-variants.{Malformed, Status, OneMore, TwoMore}
+use Rattle.vectors.specs.declared.calls.Line.the-variants.{Malformed, Status, OneMore, TwoMore, ThreeMore}
 
 -- ---- decode: the digest is of the result's fields, in order
 
 abbrev pub fieldsOf : TarhuspoDecoded → List ℕ
-fieldsOf d = d .status ∷ d .length ∷ d .memory ∷ d .mnemonic ∷ d .bits ∷ d .evex ∷ d .destination ∷ d .first ∷ d .third ∷ d .mask ∷ d .zeroing ∷ d .broadcast ∷ d .«has_immediate» ∷ d .immediate ∷ []
+fieldsOf d = d .status ∷ d .length ∷ d .memory ∷ d .mnemonic ∷ d .bits ∷ d .evex ∷ d .destination ∷ d .first ∷ d .third ∷ d .mask ∷ d .zeroing ∷ d .broadcast ∷ d .«has_immediate» ∷ d .immediate ∷ d .reason ∷ []
 
 abbrev pub decodeLine : List ℕ → List ℕ → Line
 decodeLine r code =
     let d = decodedOf (decodeOf code (numberAt 4 r 0)) in
-    OneMore (d .status) (d .length) (digestOf (fieldsOf d))
+    TwoMore (d .status) (d .length) (d .reason) (digestOf (fieldsOf d))
 
 -- ---- the others: what may be written lies in a larger buffer, and the digest is of that
 
@@ -99,7 +99,7 @@ module _ (r code pools : List ℕ) where
       let memory = take (byteAt r 12) (bytesFrom pools (numberAt 2 r 10) memoryRoom) in
       atMost (fileRoom - 2 * guard) size
       (atMost masksRoom (byteAt r 9)
-      (called (λ s d. OneMore (s .status) (s .length) d)
+      (called (λ s d. TwoMore (s .status) (s .length) (s .reason) d)
       (λ file. steppedOf (stepOf code (length file) (length masks) features (length memory)))
       (fileAfter code masks features memory)
       size (bytesFrom pools (numberAt 2 r 4) fileRoom)))
@@ -112,7 +112,7 @@ module _ (r code pools : List ℕ) where
       let masks = masksAt r pools 16 in
       atMost (fileRoom - 2 * guard) size
       (atMost masksRoom (byteAt r 17)
-      (called (λ s d. TwoMore (s .status) (s .steps) (s .place) d)
+      (called (λ s d. ThreeMore (s .status) (s .steps) (s .place) (s .reason) d)
       (λ file. ranOf (runOf code (length file) (length masks) features budget))
       (fileAfterRun code masks features budget)
       size (bytesFrom pools (numberAt 2 r 12) fileRoom)))
@@ -124,7 +124,7 @@ module _ (r code pools : List ℕ) where
       let masks = masksAt r pools 8 in
       atMost (mapRoom - 2 * guard) size
       (atMost masksRoom (byteAt r 9)
-      (called (λ s d. OneMore (s .status) (s .place) d)
+      (called (λ s d. TwoMore (s .status) (s .place) (s .reason) d)
       (λ map. builtOf (buildOf code (length masks) features (length map)))
       (mapBuilt code masks features)
       size (oldFrom (numberAt 2 r 4) mapRoom)))

@@ -30,7 +30,7 @@ abbrev pub mapRoom : ℕ
 mapRoom = 2560
 
 abbrev pub textRoom : ℕ
-textRoom = 26112
+textRoom = 28160
 
 abbrev pub masksRoom : ℕ
 masksRoom = 16

@@ -41,6 +41,7 @@ pub enum Line {
     Status(u32, Digest),
     OneMore(u32, u64, Digest),
     TwoMore(u32, u64, u64, Digest),
+    ThreeMore(u32, u64, u64, u64, Digest),
 }
 
 fn file_digest(file: &[u8; ROOM]) -> Digest
@@ -81,8 +82,14 @@ fn decode(fields: &[u8], code: &[u8]) -> Line
         d.broadcast,
         d.has_immediate,
         d.immediate,
+        d.reason,
     ];
-    Line::OneMore(d.status, d.length as u64, digest::of_numbers(&numbers))
+    Line::TwoMore(
+        d.status,
+        d.length as u64,
+        d.reason as u64,
+        digest::of_numbers(&numbers),
+    )
 }
 
 // Record: features u32; file: start u16, length u16; masks: start u8, count u8; memory: start u16, length u8.
@@ -109,7 +116,12 @@ fn step(fields: &[u8], code: &[u8], pools: &[u8; pools::SIZE]) -> Line
         u32_at(fields, 0),
         &memory[..wanted],
     );
-    Line::OneMore(stepped.status, stepped.length as u64, file_digest(&file))
+    Line::TwoMore(
+        stepped.status,
+        stepped.length as u64,
+        stepped.reason as u64,
+        file_digest(&file),
+    )
 }
 
 // Record: features u32, budget u64; file: start u16, length u16; masks: start u8, count u8.
@@ -134,7 +146,13 @@ fn run(fields: &[u8], code: &[u8], pools: &[u8; pools::SIZE]) -> Line
         u32_at(fields, 0),
         u64_at(fields, 4),
     );
-    Line::TwoMore(ran.status, ran.steps, ran.place, file_digest(&file))
+    Line::ThreeMore(
+        ran.status,
+        ran.steps,
+        ran.place,
+        ran.reason as u64,
+        file_digest(&file),
+    )
 }
 
 // Record: features u32; map: start u16, length u16; masks: start u8, count u8.
@@ -158,7 +176,12 @@ fn build(fields: &[u8], code: &[u8], pools: &[u8; pools::SIZE]) -> Line
         u32_at(fields, 0),
         &mut map[GUARD..end],
     );
-    Line::OneMore(built.status, built.place, map_digest(&map))
+    Line::TwoMore(
+        built.status,
+        built.place,
+        built.reason as u64,
+        map_digest(&map),
+    )
 }
 
 // Record of a map, from a place on: start u16, length u16; place u16, entry u16. The entry at that place is set, if there

@@ -61,6 +61,13 @@ fn print_line(line: Line) -> bool {
             print_number(second);
             print_digest(digest);
         }
+        Line::ThreeMore(status, first, second, third, digest) => {
+            print_number(status as u64);
+            print_number(first);
+            print_number(second);
+            print_number(third);
+            print_digest(digest);
+        }
     }
     true
 }

@@ -21,7 +21,7 @@ pub const SIZE: usize = ENTRIES_AT + 2 * ENTRIES;
 // Elements of a register file or of a map, with those around it.
 pub const ROOM: usize = 2560;
 
-pub const TEXT_ROOM: usize = 26112;
+pub const TEXT_ROOM: usize = 28160;
 
 pub const MASKS_ROOM: usize = 16;
 

@@ -1,9 +1,10 @@
 //! One case on the processor and on an engine.
 
 use crate::case::Case;
+use crate::damage::reason;
 use crate::detect::RegisterSet;
 use crate::difference::Finding;
-use crate::engine::Engine;
+use crate::engine::{Answer, Engine};
 use crate::guarded::Guarded;
 use crate::processor::{Outcome, Processor};
 use crate::state::{State, FILE_SIZE, MASKS, REGISTER_SIZE};
@@ -88,7 +89,7 @@ impl Comparison {
         (!is_same).then_some(Finding::NotIgnored)
     }
 
-    fn step(&mut self, engine: &mut dyn Engine, case: &Case) -> (u32, u32) {
+    fn step(&mut self, engine: &mut dyn Engine, case: &Case) -> Answer {
         self.code.set(&case.engine_code());
         self.file.set(&case.state.file);
         self.masks.set(&case.state.masks);
@@ -219,6 +220,7 @@ fn is_read_alike(case: &Case) -> bool {
     let form = case.shape.form();
     let found = [
         decoded.status,
+        decoded.reason,
         decoded.length,
         decoded.mnemonic,
         decoded.bits,
@@ -231,6 +233,7 @@ fn is_read_alike(case: &Case) -> bool {
         decoded.broadcast,
     ];
     let meant = [
+        0,
         0,
         case.code.len() as u32,
         case.shape.row.mnemonic,
@@ -250,24 +253,36 @@ fn compare_outcome(expected: Outcome, found: Outcome) -> Option<Finding> {
     (found != expected).then_some(Finding::Processor { expected, found })
 }
 
-/// The engine answers 0 and the length, or 4 and no length.
-fn compare_answer(case: &Case, (status, length): (u32, u32)) -> Vec<Finding> {
-    let (expected_status, expected_length) = match case.damage {
-        Some(_) => (4, 0),
-        None => (0, case.code.len() as u32),
-    };
-    let mut findings = Vec::new();
-    if status != expected_status {
-        findings.push(Finding::Status {
-            expected: expected_status,
-            found: status,
-        });
+/// The engine answers 0 and the length, or 4, no length and the field that was damaged.
+fn expected_answer(case: &Case) -> Answer {
+    match case.damage {
+        Some(field) => Answer {
+            status: 4,
+            length: 0,
+            reason: reason(field),
+        },
+        None => Answer {
+            status: 0,
+            length: case.code.len() as u32,
+            reason: 0,
+        },
     }
-    if length != expected_length {
-        findings.push(Finding::Length {
-            expected: expected_length,
-            found: length,
-        });
+}
+
+fn compare_answer(case: &Case, answer: Answer) -> Vec<Finding> {
+    let right = expected_answer(case);
+    let mut findings = Vec::new();
+    let (expected, found) = (right.status, answer.status);
+    if found != expected {
+        findings.push(Finding::Status { expected, found });
+    }
+    let (expected, found) = (right.length, answer.length);
+    if found != expected {
+        findings.push(Finding::Length { expected, found });
+    }
+    let (expected, found) = (right.reason, answer.reason);
+    if found != expected {
+        findings.push(Finding::Reason { expected, found });
     }
     findings
 }
@@ -384,8 +399,7 @@ mod tests {
             step: |code, file, masks, features, memory| {
                 let mut code = code.to_vec();
                 code[3] &= !0x10;
-                let stepped = reference::step(&code, file, masks, features, memory);
-                (stepped.status, stepped.length)
+                (engine::reference().step)(&code, file, masks, features, memory)
             },
         }
     }
@@ -409,11 +423,13 @@ mod tests {
         let mut comparison = comparison();
         assert_eq!(comparison.check(&mut engine::reference(), &case), []);
         let findings = comparison.check(&mut ignoring_b(), &case);
-        let found = Finding::Status {
-            expected: 4,
-            found: 0,
-        };
-        assert!(findings.contains(&found), "{findings:?}");
+        let found = 0;
+        for finding in [
+            Finding::Status { expected: 4, found },
+            Finding::Reason { expected: 5, found },
+        ] {
+            assert!(findings.contains(&finding), "{findings:?}");
+        }
         comparison.ignores_b = !comparison.ignores_b;
         let findings = comparison.check(&mut engine::reference(), &case);
         assert!(

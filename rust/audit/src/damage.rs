@@ -27,6 +27,18 @@ pub fn field_name(field: Field) -> &'static str {
     }
 }
 
+/// The reason that an engine has to give for it.
+pub fn reason(field: Field) -> u32 {
+    match field {
+        Field::FixedBits => 1,
+        Field::W => 2,
+        Field::Width => 3,
+        Field::Vvvv => 4,
+        Field::Broadcast => 5,
+        Field::Zeroing => 6,
+    }
+}
+
 /// Whether an encoding of this shape can have this field wrong.
 pub fn applies(shape: Shape, field: Field) -> bool {
     let row = shape.row;

@@ -1,6 +1,6 @@
 //! A case in which engine and processor differ.
 
-use crate::damage::field_name;
+use crate::damage::{field_name, reason};
 use crate::processor::Outcome;
 use crate::shape::Form;
 use crate::state::{State, REGISTER_SIZE};
@@ -20,6 +20,8 @@ pub enum Finding {
     Status { expected: u32, found: u32 },
     /// The engine's length.
     Length { expected: u32, found: u32 },
+    /// The engine's reason of status 4.
+    Reason { expected: u32, found: u32 },
     /// The lowest register byte that differs, and how many do.
     Register {
         register: usize,
@@ -57,6 +59,9 @@ impl fmt::Display for Finding {
                     f,
                     "engine: length {found} bytes; expected: {expected} bytes"
                 )
+            }
+            Finding::Reason { expected, found } => {
+                write!(f, "engine: reason {found}; expected: reason {expected}")
             }
             Finding::Register {
                 register,
@@ -105,7 +110,10 @@ impl fmt::Display for Difference {
         }
         write!(f, "instruction: {} ({}", hex(&self.code), self.form)?;
         match self.damage {
-            Some(field) => writeln!(f, ", wrong field: {})", field_name(field))?,
+            Some(field) => {
+                let (name, reason) = (field_name(field), reason(field));
+                writeln!(f, ", wrong field: {name}, reason {reason})")?;
+            }
             None => writeln!(f, ")")?,
         }
         writeln!(

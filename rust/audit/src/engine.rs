@@ -1,11 +1,21 @@
 //! What is compared with the processor.
 
+/// What an engine says of an instruction.
+#[derive(Debug, Clone, Copy, PartialEq, Eq)]
+pub struct Answer {
+    /// 0, or the number of a refusal.
+    pub status: u32,
+    /// The instruction's length in bytes, 0 with a refusal.
+    pub length: u32,
+    /// The number of the wrong field with status 4, else 0.
+    pub reason: u32,
+}
+
 /// A software engine that carries out one instruction.
 pub trait Engine {
     fn name(&self) -> &str;
 
-    /// Carries out the instruction at the start of `code` on the register file. Gives the status
-    /// (0, or the number of a refusal) and the instruction's length in bytes (0 with a refusal).
+    /// Carries out the instruction at the start of `code` on the register file.
     fn step(
         &mut self,
         code: &[u8],
@@ -13,11 +23,11 @@ pub trait Engine {
         masks: &[u64],
         features: u32,
         memory: &[u8],
-    ) -> (u32, u32);
+    ) -> Answer;
 }
 
-/// Code, register file, opmasks, features and memory operand in; status and length out.
-pub type Step = fn(&[u8], &mut [u8], &[u64], u32, &[u8]) -> (u32, u32);
+/// Code, register file, opmasks, features and memory operand in; the answer out.
+pub type Step = fn(&[u8], &mut [u8], &[u64], u32, &[u8]) -> Answer;
 
 /// An engine that is a function.
 pub struct Function {
@@ -37,7 +47,7 @@ impl Engine for Function {
         masks: &[u64],
         features: u32,
         memory: &[u8],
-    ) -> (u32, u32) {
+    ) -> Answer {
         (self.step)(code, file, masks, features, memory)
     }
 }
@@ -53,7 +63,11 @@ pub fn reference() -> Function {
         name: "reference",
         step: |code, file, masks, features, memory| {
             let stepped = reference::step(code, file, masks, features, memory);
-            (stepped.status, stepped.length)
+            Answer {
+                status: stepped.status,
+                length: stepped.length,
+                reason: stepped.reason,
+            }
         },
     }
 }
@@ -64,7 +78,11 @@ pub fn library() -> Function {
         name: "tarhuspo",
         step: |code, file, masks, features, memory| {
             let stepped = tarhuspo::step(code, file, masks, features, memory);
-            (stepped.status, stepped.length)
+            Answer {
+                status: stepped.status,
+                length: stepped.length,
+                reason: stepped.reason,
+            }
         },
     }
 }

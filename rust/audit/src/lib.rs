@@ -3,8 +3,8 @@
 //! Runs vector permute instructions on this machine's own processor and compares the outcome with
 //! that of a software [`Engine`]: after every instruction all 2,048 register bytes, all eight
 //! opmasks, the memory operand and the guard bytes around each buffer. Damaged encodings must be
-//! refused by the engine with status 4 and raise #UD on the processor, but for b with a register as
-//! third operand, which some processors ignore.
+//! refused by the engine with status 4 and the damaged field as the reason, and raise #UD on the
+//! processor, but for b with a register as third operand, which some processors ignore.
 //!
 //! The audit has its own instruction table and its own encoder. It shares no code with the engines;
 //! the independent reference only decides whether bytes may be executed at all.
@@ -30,7 +30,7 @@ mod state;
 pub use audit::{audit, audit_watched, Failure, Limit, Options, Progress};
 pub use detect::{Capabilities, RegisterSet};
 pub use difference::{Difference, Finding};
-pub use engine::Engine;
+pub use engine::{Answer, Engine};
 pub use processor::{Outcome, Processor, Sequence};
 pub use report::{Coverage, FormCount, Report, Skipped};
 pub use shape::Form;

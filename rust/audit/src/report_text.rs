@@ -78,7 +78,7 @@ fn write_compared(f: &mut Formatter<'_>, report: &Report, set: RegisterSet) -> R
     )?;
     writeln!(
         f,
-        "  status, length in bytes, the memory operand, the guard bytes around each buffer"
+        "  status, reason, length in bytes, the memory operand, the guard bytes around each buffer"
     )?;
     if set == RegisterSet::Ymm16 {
         writeln!(

@@ -1,7 +1,7 @@
 //! Every engine passes the audit, and those that are wrong on purpose do not.
 
-use audit::{audit, engine, Capabilities, Difference, Engine, Failure, Finding, Form, Limit};
-use audit::{Options, RegisterSet, Report, Skipped};
+use audit::{audit, engine, Answer, Capabilities, Difference, Engine, Failure, Finding, Form};
+use audit::{Limit, Options, RegisterSet, Report, Skipped};
 use reference::limits::feature;
 use reference::{decode, Decoded, Field};
 
@@ -188,7 +188,7 @@ impl Engine for Flip {
         masks: &[u64],
         features: u32,
         memory: &[u8],
-    ) -> (u32, u32) {
+    ) -> Answer {
         let answer = engine::reference().step(code, file, masks, features, memory);
         file[self.place] ^= 1 << (self.place % 8);
         answer
@@ -252,7 +252,7 @@ impl Call<'_> {
 }
 
 /// Changes what the reference did. It is called for accepted and for refused steps.
-type Change = fn(&Call, &mut [u8], &mut (u32, u32));
+type Change = fn(&Call, &mut [u8], &mut Answer);
 
 struct Wrong {
     name: &'static str,
@@ -271,7 +271,7 @@ impl Engine for Wrong {
         masks: &[u64],
         features: u32,
         memory: &[u8],
-    ) -> (u32, u32) {
+    ) -> Answer {
         let before = file.to_vec();
         let mut answer = engine::reference().step(code, file, masks, features, memory);
         let call = Call {
@@ -325,6 +325,16 @@ fn status_differs(name: &'static str, change: Change) {
     );
 }
 
+fn reason_differs(name: &'static str, change: Change) {
+    let Some(findings) = findings(name, change) else {
+        return;
+    };
+    assert!(
+        matches!(findings[..], [Finding::Reason { .. }]),
+        "{findings:?}"
+    );
+}
+
 fn length_differs(name: &'static str, change: Change) {
     let Some(findings) = findings(name, change) else {
         return;
@@ -338,7 +348,7 @@ fn length_differs(name: &'static str, change: Change) {
 #[test]
 fn byte_63_kept_instead_of_cleared() {
     register_bytes_differ("keeps byte 63", |call, file, answer| {
-        if answer.0 == 0 && call.decoded.bits < 512 {
+        if answer.status == 0 && call.decoded.bits < 512 {
             let last = call.destination().end - 1;
             file[last] = call.before[last];
         }
@@ -349,7 +359,7 @@ fn byte_63_kept_instead_of_cleared() {
 fn wrong_from_byte_8_on() {
     let name = "right in bytes 0 to 7 only";
     let found = findings(name, |call, file, answer| {
-        if answer.0 == 0 {
+        if answer.status == 0 {
             let wrong = call.destination().start + 8..call.destination().end;
             file[wrong].iter_mut().for_each(|byte| *byte ^= 0xFF);
         }
@@ -368,7 +378,7 @@ fn wrong_from_byte_8_on() {
 fn mask_bit_counted_per_byte() {
     register_bytes_differ("a mask bit for each byte", |call, file, answer| {
         let decoded = call.decoded;
-        if answer.0 != 0 || decoded.mask == 0 {
+        if answer.status != 0 || decoded.mask == 0 {
             return;
         }
         let all = call.with_masks(&[u64::MAX; 8]);
@@ -389,7 +399,7 @@ fn mask_bit_counted_per_byte() {
 #[test]
 fn merging_instead_of_zeroing() {
     register_bytes_differ("merges always", |call, file, answer| {
-        if answer.0 == 0 && call.decoded.zeroing == 1 {
+        if answer.status == 0 && call.decoded.zeroing == 1 {
             let mut merging = call.code.to_vec();
             merging[3] &= 0x7F;
             let mut start = call.before.to_vec();
@@ -402,7 +412,7 @@ fn merging_instead_of_zeroing() {
 #[test]
 fn destination_written_before_it_is_read() {
     register_bytes_differ("clears the destination first", |call, file, answer| {
-        if answer.0 == 0 && call.decoded.mask == 0 {
+        if answer.status == 0 && call.decoded.mask == 0 {
             let mut start = call.before.to_vec();
             start[call.destination()].fill(0);
             let after = call.from(start, call.masks);
@@ -414,7 +424,7 @@ fn destination_written_before_it_is_read() {
 #[test]
 fn only_the_last_lane_wrong() {
     register_bytes_differ("last lane of 512 bits", |call, file, answer| {
-        if answer.0 == 0 && call.decoded.bits == 512 {
+        if answer.status == 0 && call.decoded.bits == 512 {
             let last = call.destination().end - 16..call.destination().end;
             file[last].rotate_left(1);
         }
@@ -437,7 +447,7 @@ fn is_byte_shuffle(call: &Call) -> bool {
 #[test]
 fn bit_7_of_a_control_not_looked_at() {
     register_bytes_differ("VPSHUFB without zeros", |call, file, answer| {
-        if answer.0 == 0 && is_byte_shuffle(call) {
+        if answer.status == 0 && is_byte_shuffle(call) {
             let mut start = call.before.to_vec();
             let controls = &mut start[64 * call.decoded.third as usize..][..64];
             controls.iter_mut().for_each(|control| *control &= 0x7F);
@@ -453,7 +463,7 @@ fn bit_7_of_a_control_counted_where_the_mask_is_0() {
         let Decoded {
             third, mask, bits, ..
         } = call.decoded;
-        if answer.0 != 0 || !is_byte_shuffle(call) || mask == 0 {
+        if answer.status != 0 || !is_byte_shuffle(call) || mask == 0 {
             return;
         }
         for (j, place) in call.destination().take(bits as usize / 8).enumerate() {
@@ -475,7 +485,7 @@ fn bit_4_of_a_control_counted() {
             bits,
             ..
         } = call.decoded;
-        if answer.0 != 0 || !is_byte_shuffle(call) || mask != 0 {
+        if answer.status != 0 || !is_byte_shuffle(call) || mask != 0 {
             return;
         }
         let bytes = bits as usize / 8;
@@ -492,7 +502,7 @@ fn bit_4_of_a_control_counted() {
 #[test]
 fn low_halves_taken_for_high_ones() {
     register_bytes_differ("VUNPCKHPS as VUNPCKLPS", |call, file, answer| {
-        if answer.0 == 0 && call.decoded.mnemonic == 7 {
+        if answer.status == 0 && call.decoded.mnemonic == 7 {
             let mut low = call.code.to_vec();
             let opcode = match low[0] {
                 0xC5 => 2,
@@ -510,9 +520,10 @@ fn low_halves_taken_for_high_ones() {
 fn w_1_of_a_byte_shuffle_refused() {
     let found = findings("VPSHUFB under EVEX with W 0 alone", |call, file, answer| {
         let is_w1 = call.code[0] == 0x62 && call.code[2] >= 0x80;
-        if answer.0 == 0 && call.decoded.mnemonic == 10 && is_w1 {
+        if answer.status == 0 && call.decoded.mnemonic == 10 && is_w1 {
             file.copy_from_slice(call.before);
-            *answer = (3, 0);
+            answer.status = 3;
+            answer.length = 0;
         }
     });
     let Some(found) = found else { return };
@@ -526,7 +537,7 @@ fn w_1_of_a_byte_shuffle_refused() {
 #[test]
 fn another_register_written() {
     register_bytes_differ("writes register 31 too", |call, file, answer| {
-        if answer.0 == 0 && call.decoded.destination != 31 {
+        if answer.status == 0 && call.decoded.destination != 31 {
             file[2_047] ^= 0x80;
         }
     });
@@ -535,7 +546,7 @@ fn another_register_written() {
 #[test]
 fn registers_changed_by_a_refusal() {
     register_bytes_differ("a refusal changes a byte", |_, file, answer| {
-        if answer.0 == 4 {
+        if answer.status == 4 {
             file[1_000] = !file[1_000];
         }
     });
@@ -544,8 +555,8 @@ fn registers_changed_by_a_refusal() {
 #[test]
 fn wrong_status_of_a_refusal() {
     status_differs("3 for 4", |_, _, answer| {
-        if answer.0 == 4 {
-            answer.0 = 3;
+        if answer.status == 4 {
+            answer.status = 3;
         }
     });
 }
@@ -553,8 +564,48 @@ fn wrong_status_of_a_refusal() {
 #[test]
 fn wrong_status_of_an_accepted_step() {
     status_differs("5 for some 512-bit steps", |call, _, answer| {
-        if answer.0 == 0 && call.decoded.bits == 512 && call.decoded.immediate / 8 == 9 {
-            answer.0 = 5;
+        if answer.status == 0 && call.decoded.bits == 512 && call.decoded.immediate / 8 == 9 {
+            answer.status = 5;
+        }
+    });
+}
+
+/// One field taken for the next.
+fn next_field<const REASON: u32>(_: &Call, _: &mut [u8], answer: &mut Answer) {
+    answer.reason += u32::from(answer.reason == REASON);
+}
+
+#[test]
+fn wrong_reason_of_a_refusal() {
+    let wrong: [Change; 6] = [
+        next_field::<1>,
+        next_field::<2>,
+        next_field::<3>,
+        next_field::<4>,
+        next_field::<5>,
+        next_field::<6>,
+    ];
+    for change in wrong {
+        reason_differs("the next field", change);
+    }
+}
+
+#[test]
+fn no_reason_of_a_refusal() {
+    let found = findings("4 without a reason", |_, _, answer| answer.reason = 0);
+    let Some(found) = found else { return };
+    let [Finding::Reason { expected, found: 0 }] = found[..] else {
+        panic!("{found:?}");
+    };
+    let text = format!("engine: reason 0; expected: reason {expected}");
+    assert_eq!(found[0].to_string(), text);
+}
+
+#[test]
+fn reason_of_an_accepted_step() {
+    reason_differs("a reason with 0", |_, _, answer| {
+        if answer.status == 0 {
+            answer.reason = 4;
         }
     });
 }
@@ -562,8 +613,12 @@ fn wrong_status_of_an_accepted_step() {
 #[test]
 fn reserved_field_not_refused() {
     let found = findings("accepts everything", |call, _, answer| {
-        if answer.0 == 4 {
-            *answer = (0, call.code.len() as u32);
+        if answer.status == 4 {
+            *answer = Answer {
+                status: 0,
+                length: call.code.len() as u32,
+                reason: 0,
+            };
         }
     });
     let Some(found) = found else { return };
@@ -574,7 +629,11 @@ fn reserved_field_not_refused() {
                 expected: 4,
                 found: 0
             },
-            Finding::Length { expected: 0, .. }
+            Finding::Length { expected: 0, .. },
+            Finding::Reason {
+                expected: 1..=6,
+                found: 0
+            }
         ]
     ));
 }
@@ -582,8 +641,8 @@ fn reserved_field_not_refused() {
 #[test]
 fn length_of_all_the_bytes() {
     length_differs("takes trailing bytes along", |call, _, answer| {
-        if answer.0 == 0 {
-            answer.1 = call.code.len() as u32;
+        if answer.status == 0 {
+            answer.length = call.code.len() as u32;
         }
     });
 }
@@ -591,8 +650,8 @@ fn length_of_all_the_bytes() {
 #[test]
 fn length_of_a_refusal() {
     length_differs("a refusal has a length", |_, _, answer| {
-        if answer.0 == 4 {
-            answer.1 = 4;
+        if answer.status == 4 {
+            answer.length = 4;
         }
     });
 }

@@ -1,7 +1,7 @@
 //! How a command ends.
 
 use std::path::PathBuf;
-use tarhuspo::describe;
+use tarhuspo::{describe, describe_reason};
 
 /// What is printed and written, once all of the work is done.
 #[derive(Default)]
@@ -47,15 +47,26 @@ impl From<&str> for Failure {
     }
 }
 
-/// A status number and its sentence.
+/// A status number and its sentence. That of a reason says more than that of status 4.
+pub fn in_words(status: u32, reason: u32) -> String {
+    match status {
+        4 => format!("4 (#UD), reason {reason}: {}", describe_reason(reason)),
+        _ => format!("{status}: {}", describe(status)),
+    }
+}
+
+/// The refusal of a whole input, for which there is no reason.
 pub fn refusal(status: u32) -> String {
-    format!("refused, status {status}: {}", describe(status))
+    format!("refused, status {}", in_words(status, 0))
+}
+
+/// The refusal of one instruction.
+pub fn refusal_of(status: u32, reason: u32) -> String {
+    format!("refused, status {}", in_words(status, reason))
 }
 
 /// The same for an instruction of a list.
-pub fn refusal_at(place: u64, status: u32) -> String {
-    format!(
-        "refused at place {place}, status {status}: {}",
-        describe(status)
-    )
+pub fn refusal_at(place: u64, status: u32, reason: u32) -> String {
+    let words = in_words(status, reason);
+    format!("refused at place {place}, status {words}")
 }

@@ -103,13 +103,17 @@ impl Line {
 mod tests {
     use super::{closing, Failure};
     use ::audit::engine::Function;
-    use ::audit::{audit, Capabilities, Limit, Options};
+    use ::audit::{audit, Answer, Capabilities, Limit, Options};
 
     /// An engine that refuses everything.
     fn refusing() -> Function {
         Function {
             name: "refuses everything",
-            step: |_, _, _, _, _| (3, 0),
+            step: |_, _, _, _, _| Answer {
+                status: 3,
+                length: 0,
+                reason: 0,
+            },
         }
     }
 

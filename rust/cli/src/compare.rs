@@ -46,7 +46,7 @@ impl List {
         List {
             name: format!("list {number} ({name})"),
             number,
-            map: map.map_err(|built| refusal_at(built.place, built.status)),
+            map: map.map_err(|built| refusal_at(built.place, built.status, built.reason)),
         }
     }
 }

@@ -1,6 +1,6 @@
 //! `tarhuspo decode`: one instruction in words.
 
-use crate::answer::{refusal, Answer, Failure};
+use crate::answer::{refusal_of, Answer, Failure};
 use crate::options::{Options, FEATURES};
 use crate::{assembler, features, input};
 use std::ffi::OsString;
@@ -17,6 +17,6 @@ pub fn run(words: &[OsString]) -> Result<Answer, Failure> {
     let decoded = tarhuspo::decode(&code, features::given(&options)?);
     Ok(match decoded.status {
         0 => Answer::text(assembler::described(&decoded)),
-        status => Answer::text(refusal(status) + "\n").refused_if(true),
+        status => Answer::text(refusal_of(status, decoded.reason) + "\n").refused_if(true),
     })
 }

@@ -16,12 +16,12 @@ pub struct Command {
 pub const COMMANDS: [Command; 6] = [
     Command {
         name: "list",
-        help: &[LIST, CODE, LIST_END],
+        help: &[LIST, REASONS, CODE, LIST_END],
         run: list::run,
     },
     Command {
         name: "decode",
-        help: &[DECODE, FEATURES, DECODE_END],
+        help: &[DECODE, FEATURES, REASONS, DECODE_END],
         run: decode::run,
     },
     Command {
@@ -118,6 +118,17 @@ const FEATURES: &str = "  \
                    number; all, which is 63, if not given
 ";
 
+const REASONS: &str = "
+Status 4 (#UD) comes with a reason: the number of the reserved field that is
+wrong, and of the first one if several are. What the fields must be:
+  1  EVEX fixed bits: bits 3 and 2 of the second byte 0, bit 2 of the third 1
+  2  W: 0 in the VEX forms of VPERMILPD, VPERMILPS and VPERM2F128
+  3  width: not L'L 11b under EVEX, and L 1 for VPERM2F128
+  4  vvvv: 1111b, and V' 1 under EVEX, in a form without a first source
+  5  b: 0 with a register as third operand, and on VPERMB and VPSHUFB
+  6  z: 0 without an opmask (aaa 000b)
+";
+
 const CODE: &str = "
 CODE is a list of instructions, end to end, of at most 4,096 bytes:
   hex:C5F970CA1B   the bytes, as pairs of hex digits; with spaces, in quotes
@@ -132,8 +143,9 @@ usage: tarhuspo list [CODE] [--hex]
 
 Prints headings and a line for each instruction: its place, length in bytes,
 name, width in bits, and 0. The first one that is refused has the last line, with
-its status in place of the 0. All features count as there. Without CODE, standard
-input is read.
+its status in place of the 0. Status 4 is written 4:1 to 4:6, with its reason, and
+a note on standard error has that in words. All features count as there. Without
+CODE, standard input is read.
 ";
 
 const LIST_END: &str = "
@@ -148,9 +160,9 @@ usage: tarhuspo decode HEX.. [--features LIST]
 
 Prints the instruction that the bytes start with as an assembler writes it, then
 its length, the memory that it wants, and each operand; or the status and why it
-is refused. A decoding does not say where memory lies, so that an operand there
-is written by its size: xmmword ptr [mem], or dword ptr [mem]{1to16} for one
-element that is repeated.
+is refused, which for status 4 (#UD) is a field and what it must be. A decoding
+does not say where memory lies, so that an operand there is written by its size:
+xmmword ptr [mem], or dword ptr [mem]{1to16} for one element that is repeated.
 
   HEX              the bytes, as pairs of hex digits, with or without spaces
                    and 0x
@@ -168,7 +180,8 @@ usage: tarhuspo run CODE [--hex] [--registers FILE] [--masks FILE]
 
 Carries out the instructions of CODE. Prints how many (steps), where the next or
 the refused one starts (place), the status (answer), and the registers that
-changed, with the numbers of the changed bytes.
+changed, with the numbers of the changed bytes. Status 4 (#UD) comes with a
+reason: tarhuspo help decode lists them.
 
   --registers FILE the registers before: 2,048 bytes, zmm0 first, in each the
                    lowest byte first; all zero if not given
@@ -203,7 +216,8 @@ build writes the map of a list, apply moves the bytes of a file of registers, an
 compose writes one map for several in the order of applying. show prints what
 moves, in runs such as zmm1[0..3] from zmm2[12..15], and leaves out what stays.
 A list with a memory operand has no map, nor has one with a control in a register:
-VPERMB, VPSHUFB, and VPERMILPD or VPERMILPS without an immediate.
+VPERMB, VPSHUFB, and VPERMILPD or VPERMILPS without an immediate. Status 4 (#UD)
+comes with a reason: tarhuspo help decode lists them.
 
   --registers FILE 2,048 bytes, zmm0 first, in each the lowest byte first
   --out FILE       where the map or the registers go; standard output if not
@@ -224,7 +238,8 @@ usage: tarhuspo compare CODE CODE.. [--hex] [--masks FILE] [--features LIST]
 
 Builds the byte map of each list, and compares it with that of the first. Lists
 are the same if no starting registers tell them apart. Otherwise the lowest
-register byte that differs is named, with where each list takes it from.
+register byte that differs is named, with where each list takes it from. Status 4
+(#UD) comes with a reason: tarhuspo help decode lists them.
 
 ";
 
@@ -240,11 +255,11 @@ usage: tarhuspo audit [--seconds N | --steps N | --case N] [--seed N]
 
 Carries out random instructions on this machine's processor and with the library.
 After each it compares 2,048 register bytes (32 registers of 64 bytes), 8 opmasks
-of 64 bits, the memory operand, status and length, and guard bytes around all
-buffers. Damaged encodings must raise #UD and be refused with status 4; b with a
-register as third operand, which some processors ignore, must be refused all the
-same. It ends at the first difference, and prints all that is needed to repeat
-that.
+of 64 bits, the memory operand, status, reason and length, and guard bytes around
+all buffers. Damaged encodings must raise #UD and be refused with status 4 and the
+damaged field as the reason; b with a register as third operand, which some
+processors ignore, must be refused all the same. It ends at the first difference,
+and prints all that is needed to repeat that.
 
   --seconds N      stop after N seconds; 10 if nothing is given
   --steps N        stop after N instructions, accepted and refused ones together

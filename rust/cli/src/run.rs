@@ -1,6 +1,6 @@
 //! `tarhuspo run`: a list of instructions on a register file.
 
-use crate::answer::{Answer, Failure};
+use crate::answer::{in_words, Answer, Failure};
 use crate::features;
 use crate::input::{note_masks, Inputs};
 use crate::options::{Known, Options, FEATURES, HEX, MASKS, OUT, REGISTERS};
@@ -8,7 +8,7 @@ use crate::places::{range, REGISTER_SIZE};
 use std::ffi::{OsStr, OsString};
 use std::path::PathBuf;
 use tarhuspo::limits::{FILE_SIZE, MOST_STEPS};
-use tarhuspo::{describe, Ran};
+use tarhuspo::Ran;
 
 const BUDGET: Known = Known::with("--budget", "a number of steps");
 const KEEP_STEPS: Known = Known::flag("--keep-steps");
@@ -81,17 +81,17 @@ impl<'a> Out<'a> {
 }
 
 fn report(ran: &Ran, length: usize, before: &[u8], after: &[u8]) -> String {
-    let (steps, place, status) = (ran.steps, ran.place, ran.status);
-    let sentence = match status {
-        0 if place == length as u64 => "The end of the code was reached.",
-        0 => "The budget was spent.",
-        _ => describe(status),
+    let (steps, place) = (ran.steps, ran.place);
+    let answer = match ran.status {
+        0 if place == length as u64 => "0: The end of the code was reached.".to_string(),
+        0 => "0: The budget was spent.".to_string(),
+        status => in_words(status, ran.reason),
     };
     let changed = changed(steps, before, after);
     format!(
         "steps:   {steps}\n\
          place:   {place} of {length}\n\
-         answer:  {status}: {sentence}\n\
+         answer:  {answer}\n\
          changed: {changed}\n"
     )
 }

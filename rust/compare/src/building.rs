@@ -7,7 +7,7 @@ use crate::limits::features;
 use crate::mapping::any_entries;
 use crate::random::Random;
 use crate::state::refill_masks;
-use crate::tally::Counts;
+use crate::tally::{Counts, Reasons};
 use std::fmt;
 use tarhuspo::limits::MAP_SIZE;
 use tarhuspo::Built;
@@ -68,6 +68,8 @@ pub struct Comparison {
     last: Option<Vec<u8>>,
     pub lists: u64,
     pub counts: Counts,
+    /// The reasons of status 4.
+    pub reasons: Reasons,
     /// The steps of accepted lists.
     pub instructions: Instructions,
 }
@@ -78,7 +80,8 @@ impl Comparison {
     /// # Panics
     ///
     /// If the results or the maps differ, if a refusal changed the map, if the place of an accepted
-    /// list is not its length, or if the library changed another buffer or elements around one.
+    /// list is not its length, if a reason comes with another status than 4, or if the library
+    /// changed another buffer or elements around one.
     pub fn check(&mut self, case: &Case) -> Built {
         let library = self.build(case);
         self.expected.clone_from(&case.map);
@@ -91,6 +94,7 @@ impl Comparison {
             self.lists += 1;
         }
         self.counts.add(library.status);
+        self.reasons.add(library.status, library.reason);
         if library.status == 0 {
             self.instructions.record_list(&case.code, case.features);
         }
@@ -112,9 +116,16 @@ impl Comparison {
     }
 
     fn build_reference(&mut self, case: &Case) -> Built {
-        let reference::Built { place, status } =
-            reference::build(&case.code, &case.masks, case.features, &mut self.expected);
-        Built { place, status }
+        let reference::Built {
+            place,
+            status,
+            reason,
+        } = reference::build(&case.code, &case.masks, case.features, &mut self.expected);
+        Built {
+            place,
+            status,
+            reason,
+        }
     }
 
     fn difference(&self, case: &Case, library: Built, reference: Built) -> Option<String> {

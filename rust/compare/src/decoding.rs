@@ -2,21 +2,24 @@
 
 use crate::guard::Guarded;
 use crate::instructions::Instructions;
+use crate::tally::Reasons;
+use std::collections::BTreeMap;
+use tarhuspo::Decoded;
 
 /// Decoding gives the statuses 0 to 5.
 pub const STATUSES: usize = 6;
 
 /// The fields of a result, in the order of the C struct.
-pub type Fields = [u32; 14];
+pub type Fields = [u32; 15];
 
 // Both structs are taken apart without `..`, so a field that is added to one and forgotten here
 // does not compile.
 macro_rules! fields {
     ($($name:ident),*) => {
-        const NAMES: [&str; 14] = [$(stringify!($name)),*];
+        const NAMES: [&str; 15] = [$(stringify!($name)),*];
 
-        pub fn library_fields(decoded: tarhuspo::Decoded) -> Fields {
-            let tarhuspo::Decoded { $($name),* } = decoded;
+        pub fn library_fields(decoded: Decoded) -> Fields {
+            let Decoded { $($name),* } = decoded;
             [$($name),*]
         }
 
@@ -41,7 +44,8 @@ fields!(
     zeroing,
     broadcast,
     has_immediate,
-    immediate
+    immediate,
+    reason
 );
 
 /// Decodes with the library and with the reference, and stops at the first difference.
@@ -50,6 +54,8 @@ pub struct Comparison {
     buffer: Guarded,
     /// How many cases had each status.
     pub counts: [u64; STATUSES],
+    /// The reasons of status 4, by first byte.
+    pub reasons: BTreeMap<u8, Reasons>,
     /// The accepted ones.
     pub instructions: Instructions,
 }
@@ -59,19 +65,19 @@ impl Comparison {
     ///
     /// # Panics
     ///
-    /// If the results differ in any field, if the status is above 5, or if the library changed the
-    /// code or bytes around it.
+    /// If the results differ in any field, if the status is above 5, if a reason comes with another
+    /// status than 4, or if the library changed the code or bytes around it.
     pub fn check(&mut self, code: &[u8], features: u32) -> u32 {
-        self.check_part(code, code.len(), features)
+        self.check_part(code, code.len(), features).status
     }
 
-    /// Compares on the first `length` bytes of `whole`. The others follow in memory, where a
-    /// decoder that reads past its input would find them.
+    /// Compares on the first `length` bytes of `whole`, and gives the result. The others follow in
+    /// memory, where a decoder that reads past its input would find them.
     ///
     /// # Panics
     ///
     /// As [`check`](Comparison::check).
-    pub fn check_part(&mut self, whole: &[u8], length: usize, features: u32) -> u32 {
+    pub fn check_part(&mut self, whole: &[u8], length: usize, features: u32) -> Decoded {
         let code = &whole[..length];
         let copy = self.buffer.fill(whole);
         let decoded = tarhuspo::decode(&copy[..length], features);
@@ -83,15 +89,19 @@ impl Comparison {
         if library != reference {
             panic!("{}\n{}", input(code, features), results(library, reference));
         }
-        let status = library[0];
+        let status = decoded.status;
         match self.counts.get_mut(status as usize) {
             Some(count) => *count += 1,
             None => panic!("status {status}\n{}", input(code, features)),
         }
+        if let Some(&first) = code.first() {
+            let reasons = self.reasons.entry(first).or_default();
+            reasons.add(status, decoded.reason);
+        }
         if status == 0 {
             self.instructions.record(&decoded);
         }
-        status
+        decoded
     }
 }
 

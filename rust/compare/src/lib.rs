@@ -12,4 +12,4 @@ pub mod mapping;
 pub mod running;
 pub mod stepping;
 
-pub use inputs::{encoding, faults, form, limits, lists, random, state, tally};
+pub use inputs::{encoding, faults, form, limits, lists, random, reserved, state, tally};

@@ -4,7 +4,7 @@ use crate::display;
 use crate::guard::Guarded;
 use crate::instructions::Instructions;
 use crate::limits::features;
-use crate::tally::Counts;
+use crate::tally::{Counts, Reasons};
 use std::fmt;
 use tarhuspo::limits::TEXT_SIZE;
 use tarhuspo::Listed;
@@ -53,6 +53,8 @@ pub struct Comparison {
     pub counts: Counts,
     /// Accepted listings by the status in their last line, 0 if there is none.
     pub last_lines: Counts,
+    /// The reasons behind a 4 in the last line.
+    pub reasons: Reasons,
     /// The instructions that have a line.
     pub instructions: Instructions,
 }
@@ -62,8 +64,9 @@ impl Comparison {
     ///
     /// # Panics
     ///
-    /// If the results or the texts differ, if a refusal counts or changed text, or if the library
-    /// changed the code or bytes around a buffer.
+    /// If the results or the texts differ, if a refusal counts or changed text, if the last line has
+    /// a reason with another status than 4, or if the library changed the code or bytes around a
+    /// buffer.
     pub fn check(&mut self, case: &Case) -> Listed {
         self.before.clear();
         let old = (0..case.text_size).map(|i| case.old.wrapping_add(i as u8));
@@ -81,7 +84,9 @@ impl Comparison {
         }
         self.counts.add(status);
         if status == 0 {
-            self.last_lines.add(last_status(self.written(library)));
+            let (status, reason) = last_answer(self.written(library));
+            self.last_lines.add(status);
+            self.reasons.add(status, reason);
             self.instructions.record_list(&case.code, features::ALL);
         }
         library
@@ -110,9 +115,13 @@ impl Comparison {
     }
 }
 
-/// The status at the end of the last line, or 0 if there are only headings.
-fn last_status(text: &str) -> u32 {
+/// Status and reason at the end of the last line, or 0 if there are only headings.
+fn last_answer(text: &str) -> (u32, u32) {
     let last = text.lines().skip(1).last();
     let field = last.and_then(|line| line.rsplit('\t').next());
-    field.map_or(0, |field| field.parse().unwrap_or(u32::MAX))
+    let (status, reason) = field.map_or(("0", "0"), |field| {
+        field.split_once(':').unwrap_or((field, "0"))
+    });
+    let number = |digits: &str| digits.parse().unwrap_or(u32::MAX);
+    (number(status), number(reason))
 }

@@ -6,7 +6,7 @@ use crate::instructions::Instructions;
 use crate::limits::features;
 use crate::random::Random;
 use crate::state::{refill_file, refill_masks};
-use crate::tally::Counts;
+use crate::tally::{Counts, Reasons};
 use std::fmt;
 use tarhuspo::limits::MOST_STEPS;
 use tarhuspo::Ran;
@@ -67,6 +67,8 @@ pub struct Comparison {
     last: Option<Vec<u8>>,
     pub lists: u64,
     pub counts: Counts,
+    /// The reasons of status 4.
+    pub reasons: Reasons,
     /// The steps that were carried out.
     pub instructions: Instructions,
 }
@@ -77,7 +79,8 @@ impl Comparison {
     /// # Panics
     ///
     /// If the results or the register files differ, if a refusal of the whole run counts steps or
-    /// changed the register file, or if the library changed another buffer or elements around one.
+    /// changed the register file, if a reason comes with another status than 4, or if the library
+    /// changed another buffer or elements around one.
     pub fn check(&mut self, case: &Case) -> Ran {
         let library = self.run(case);
         self.expected.clone_from(&case.file);
@@ -90,6 +93,7 @@ impl Comparison {
             self.lists += 1;
         }
         self.counts.add(library.status);
+        self.reasons.add(library.status, library.reason);
         let done = &case.code[..library.place as usize];
         self.instructions.record_list(done, case.features);
         library
@@ -115,6 +119,7 @@ impl Comparison {
             steps,
             place,
             status,
+            reason,
         } = reference::run(
             &case.code,
             &mut self.expected,
@@ -126,6 +131,7 @@ impl Comparison {
             steps,
             place,
             status,
+            reason,
         }
     }
 

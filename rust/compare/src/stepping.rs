@@ -6,8 +6,9 @@ use crate::guard::Guarded;
 use crate::limits::features;
 use crate::random::Random;
 use crate::state::{refill_file, refill_masks};
-use crate::tally::Counts;
+use crate::tally::{Counts, Reasons};
 use std::fmt;
+use tarhuspo::Stepped;
 
 /// The inputs of a step.
 #[derive(Clone)]
@@ -83,6 +84,8 @@ pub struct Comparison {
     /// The register file that the reference leaves.
     expected: Vec<u8>,
     pub counts: Counts,
+    /// The reasons of status 4.
+    pub reasons: Reasons,
     pub coverage: Coverage,
 }
 
@@ -92,27 +95,31 @@ impl Comparison {
     /// # Panics
     ///
     /// If the results or the register files differ, if a refusal has a length or changed the
-    /// register file, or if the library changed another buffer or elements around one.
+    /// register file, if a reason comes with another status than 4, or if the library changed
+    /// another buffer or elements around one.
     pub fn check(&mut self, case: &Case) -> u32 {
+        self.check_whole(case).status
+    }
+
+    /// Compares on `case`, and gives the whole result.
+    ///
+    /// # Panics
+    ///
+    /// As [`check`](Comparison::check).
+    pub fn check_whole(&mut self, case: &Case) -> Stepped {
         let library = self.step(case);
         self.expected.clone_from(&case.file);
-        let reference = reference::step(
-            &case.code,
-            &mut self.expected,
-            &case.masks,
-            case.features,
-            &case.memory,
-        );
-        let results = (library, (reference.status, reference.length));
-        if let Some(difference) = self.difference(case, results) {
+        let reference = self.step_reference(case);
+        if let Some(difference) = self.difference(case, library, reference) {
             panic!("{difference}\n{case}");
         }
-        if library.0 == 0 {
+        if library.status == 0 {
             let decoded = tarhuspo::decode(&case.code, case.features);
             self.coverage.record(&decoded, case);
         }
-        self.counts.add(library.0);
-        library.0
+        self.counts.add(library.status);
+        self.reasons.add(library.status, library.reason);
+        library
     }
 
     /// The register file that the last step left.
@@ -120,30 +127,42 @@ impl Comparison {
         &self.expected
     }
 
-    /// The library's status and length.
-    fn step(&mut self, case: &Case) -> (u32, u32) {
-        let tarhuspo::Stepped { status, length } = tarhuspo::step(
+    fn step(&mut self, case: &Case) -> Stepped {
+        tarhuspo::step(
             self.code.fill_joined(&case.code, &case.behind),
             self.file.fill(&case.file),
             self.masks.fill(&case.masks),
             case.features,
             self.memory.fill(&case.memory),
-        );
-        (status, length)
+        )
     }
 
-    fn difference(&self, case: &Case, results: ((u32, u32), (u32, u32))) -> Option<String> {
-        let (library, reference) = results;
-        if library != reference {
-            return Some(format!(
-                "status and length: {library:?} from the library, {reference:?} from the reference"
-            ));
+    fn step_reference(&mut self, case: &Case) -> Stepped {
+        let reference::Stepped {
+            status,
+            length,
+            reason,
+        } = reference::step(
+            &case.code,
+            &mut self.expected,
+            &case.masks,
+            case.features,
+            &case.memory,
+        );
+        Stepped {
+            status,
+            length,
+            reason,
         }
-        if library.0 != 0 && (library.1 != 0 || !self.file.is_unchanged(&case.file)) {
-            return Some(format!(
-                "status {}, but length or file is not as before",
-                library.0
-            ));
+    }
+
+    fn difference(&self, case: &Case, library: Stepped, reference: Stepped) -> Option<String> {
+        if library != reference {
+            return Some(format!("library: {library:?}\nreference: {reference:?}"));
+        }
+        let refused = library.status != 0;
+        if refused && (library.length != 0 || !self.file.is_unchanged(&case.file)) {
+            return Some(format!("{library:?}, or the file is not as before"));
         }
         if let Some(found) = self.file.difference(&self.expected) {
             let (register, byte) = (found.at.div_euclid(64), found.at.rem_euclid(64));

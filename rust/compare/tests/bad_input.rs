@@ -17,8 +17,15 @@ fn decode(code: &[u8], features: u32) -> Fields {
 
 /// A refusal: the status, and 0 in every other field.
 fn refused(status: u32) -> Fields {
-    let mut fields = [0; 14];
+    let mut fields = [0; 15];
     fields[0] = status;
+    fields
+}
+
+/// Status 4, with its reason in the last field.
+fn reserved(reason: u32) -> Fields {
+    let mut fields = refused(4);
+    fields[14] = reason;
     fields
 }
 
@@ -50,11 +57,11 @@ fn fifteen_bytes_are_judged_by_their_start() {
     // Two-byte VEX prefix, opcode C5: no row.
     assert_eq!(decode(&[0xC5; 15], ALL), refused(3));
     // The fixed bit 2 of the third byte is 0.
-    assert_eq!(decode(&[0x62; 15], ALL), refused(4));
+    assert_eq!(decode(&[0x62; 15], ALL), reserved(1));
     // The last 15 bytes of a longer buffer: VPERM2F128 of 128 bits, which does not exist.
     let mut code = [0; 64];
     code[49..].copy_from_slice(&[0xC4, 0xE3, 0x69, 6, 0xCB, 0x31, 0, 1, 2, 3, 4, 5, 6, 7, 8]);
-    assert_eq!(decode(&code[49..], ALL), refused(4));
+    assert_eq!(decode(&code[49..], ALL), reserved(3));
 }
 
 #[test]
@@ -62,10 +69,10 @@ fn long_code_is_decoded_from_its_start_alone() {
     let mut code = vec![0; 100_000];
     assert_eq!(decode(&code, ALL), refused(3));
     code[..5].copy_from_slice(&[0xC5, 0xE9, 0x70, 0xCA, 0x1B]);
-    assert_eq!(decode(&code, ALL), refused(4));
+    assert_eq!(decode(&code, ALL), reserved(4));
     code[..5].copy_from_slice(&[0xC5, 0xFD, 0x70, 0xCA, 0x1B]);
     assert_eq!(decode(&code, 1), refused(5));
-    let accepted = [0, 5, 0, 4, 256, 0, 1, 0, 2, 0, 0, 0, 1, 0x1B];
+    let accepted = [0, 5, 0, 4, 256, 0, 1, 0, 2, 0, 0, 0, 1, 0x1B, 0];
     assert_eq!(decode(&code, ALL), accepted);
 }
 
@@ -80,6 +87,30 @@ fn unknown_features_are_refused_before_the_code_is_read() {
     }
 }
 
+/// Each of the six fields alone, and with all that come behind it.
+#[test]
+fn reasons_name_the_first_wrong_field() {
+    let cases: [(&[u8], u32); 11] = [
+        (&[0x62, 0xF9, 0x7D, 0x48, 0x70, 0xCA, 0x1B], 1),
+        (&[0x62, 0xF9, 0x01, 0xF0, 0x70, 0xCA, 0x1B], 1),
+        (&[0xC4, 0xE3, 0xFD, 0x05, 0xCA, 0x05], 2),
+        (&[0xC4, 0xE3, 0xE9, 0x06, 0xCB, 0x31], 2),
+        (&[0x62, 0xF1, 0x7D, 0x68, 0x70, 0xCA, 0x1B], 3),
+        (&[0x62, 0xF1, 0x05, 0xF0, 0x70, 0xCA, 0x1B], 3),
+        (&[0x62, 0xF1, 0x7D, 0x40, 0x70, 0xCA, 0x1B], 4),
+        (&[0x62, 0xF1, 0x05, 0xD0, 0x70, 0xCA, 0x1B], 4),
+        (&[0x62, 0xF2, 0x6D, 0x58, 0x00, 0x08], 5),
+        (&[0x62, 0xF1, 0x7D, 0xD8, 0x70, 0xCA, 0x1B], 5),
+        (&[0x62, 0xF1, 0x7D, 0xC8, 0x70, 0xCA, 0x1B], 6),
+    ];
+    for (code, reason) in cases {
+        for features in 0..=ALL {
+            assert_eq!(decode(code, features), reserved(reason), "{code:02X?}");
+        }
+        assert_eq!(decode(code, ALL + 1), refused(1), "{code:02X?}");
+    }
+}
+
 #[test]
 fn every_set_of_features_is_allowed() {
     for features in 0..=ALL {
@@ -87,7 +118,7 @@ fn every_set_of_features_is_allowed() {
     }
     // VPSHUFB zmm1, zmm2, zmm3 needs AVX512BW alone.
     let code = [0x62, 0xF2, 0x6D, 0x48, 0x00, 0xCB];
-    let accepted = [0, 6, 0, 10, 512, 1, 1, 2, 3, 0, 0, 0, 0, 0];
+    let accepted = [0, 6, 0, 10, 512, 1, 1, 2, 3, 0, 0, 0, 0, 0, 0];
     assert_eq!(decode(&code, 31), refused(5));
     assert_eq!(decode(&code, 32), accepted);
     assert_eq!(decode(&code, ALL), accepted);

@@ -6,7 +6,7 @@ mod compiler;
 
 use compiler::{compile, INCLUDE};
 use std::path::{Path, PathBuf};
-use tarhuspo::{features, limits, version};
+use tarhuspo::{features, limits, reason, version};
 
 fn header() -> PathBuf {
     Path::new(INCLUDE).join("tarhuspo.h")
@@ -21,14 +21,17 @@ fn printed(source: &str, name: &str) -> String {
 #[test]
 fn c_program_runs_against_the_archive() {
     let printed = printed("header.c", "c_header");
-    let expected = "accepted: 0 6 8 1 256 1 17 9 0 3 1 1 0 0\n\
-                    too short: 2 0 0 0 0 0 0 0 0 0 0 0 0 0\n\
-                    empty: 2 0 0 0 0 0 0 0 0 0 0 0 0 0\n\
-                    features: 1 0 0 0 0 0 0 0 0 0 0 0 0 0\n\
-                    vpshufb: 0 6 0 10 512 1 1 2 3 0 0 0 0 0\n\
-                    without avx512bw: 5 0 0 0 0 0 0 0 0 0 0 0 0 0\n\
+    let expected = "accepted: 0 6 8 1 256 1 17 9 0 3 1 1 0 0, reason 0\n\
+                    too short: 2 0 0 0 0 0 0 0 0 0 0 0 0 0, reason 0\n\
+                    empty: 2 0 0 0 0 0 0 0 0 0 0 0 0 0, reason 0\n\
+                    features: 1 0 0 0 0 0 0 0 0 0 0 0 0 0, reason 0\n\
+                    vpshufb: 0 6 0 10 512 1 1 2 3 0 0 0 0 0, reason 0\n\
+                    without avx512bw: 5 0 0 0 0 0 0 0 0 0 0 0 0 0, reason 0\n\
+                    z: 4 0 0 0 0 0 0 0 0 0 0 0 0 0, reason 6\n\
+                    b and z: 4 0 0 0 0 0 0 0 0 0 0 0 0 0, reason 5\n\
                     step: 0 7, bytes 0 5 8 0 0\n\
                     refused step: 6 0, bytes 5 8\n\
+                    reserved step: 4 0, reason 2\n\
                     run: 2 9 3, bytes 199 134 0\n\
                     no budget: 0 0 0\n\
                     build: 9 0, entries 196 132 2048\n\
@@ -36,17 +39,23 @@ fn c_program_runs_against_the_archive() {
                     apply: 0, bytes 199 0\n\
                     compose: 0, entries 132 0\n\
                     refused apply: 9\n\
+                    reserved build: 4 4, reason 3\n\
+                    reserved run: 1 4 4, reason 3\n\
                     refused listing: 0 1, byte 0\n\
                     listing: 72 0\n\
                     at\tlen\tname\tbits\tanswer\n\
                     0\t4\tVUNPCKLPS\t128\t0\n\
                     4\t5\tVPSHUFD\t128\t0\n\
-                    9\t0\t-\t0\t3\n";
+                    9\t0\t-\t0\t3\n\
+                    reserved listing: 56 0\n\
+                    at\tlen\tname\tbits\tanswer\n\
+                    0\t4\tVUNPCKLPS\t128\t0\n\
+                    4\t0\t-\t0\t4:3\n";
     assert_eq!(printed, expected);
 }
 
 /// The constants of the Rust wrapper, under the names that the header gives them.
-const CONSTANTS: [(&str, u64); 15] = [
+const CONSTANTS: [(&str, u64); 21] = [
     ("VERSION_MAJOR", version::MAJOR as u64),
     ("VERSION_MINOR", version::MINOR as u64),
     ("AVX", features::AVX as u64),
@@ -55,6 +64,12 @@ const CONSTANTS: [(&str, u64); 15] = [
     ("AVX512VL", features::AVX512VL as u64),
     ("AVX512_VBMI", features::AVX512_VBMI as u64),
     ("AVX512BW", features::AVX512BW as u64),
+    ("REASON_FIXED_BITS", reason::FIXED_BITS as u64),
+    ("REASON_W", reason::W as u64),
+    ("REASON_WIDTH", reason::WIDTH as u64),
+    ("REASON_VVVV", reason::VVVV as u64),
+    ("REASON_B", reason::B as u64),
+    ("REASON_Z", reason::Z as u64),
     ("FILE_SIZE", limits::FILE_SIZE as u64),
     ("MASK_COUNT", limits::MASK_COUNT as u64),
     ("MAP_SIZE", limits::MAP_SIZE as u64),
@@ -68,6 +83,22 @@ const CONSTANTS: [(&str, u64); 15] = [
 fn constants_are_those_of_the_wrapper() {
     let lines = CONSTANTS.map(|(name, value)| format!("{name} {value}\n"));
     assert_eq!(printed("constants.c", "c_constants"), lines.concat());
+}
+
+/// What request 3 says in numbers, and the version that it made.
+#[test]
+fn constants_of_request_3() {
+    let reasons = [
+        reason::FIXED_BITS,
+        reason::W,
+        reason::WIDTH,
+        reason::VVVV,
+        reason::B,
+        reason::Z,
+    ];
+    assert_eq!(reasons, [1, 2, 3, 4, 5, 6]);
+    assert_eq!(limits::TEXT_SIZE, 27_672);
+    assert_eq!((version::MAJOR, version::MINOR), (3, 0));
 }
 
 /// None is left out above.

@@ -5,6 +5,8 @@ use compare::encoding::{Prefix, Shape};
 use compare::instructions::Instructions;
 use compare::limits::features::{ALL, SETS};
 use compare::random::Random;
+use compare::tally::Reasons;
+use std::collections::BTreeMap;
 
 const LEAST: u64 = 1_000_000;
 
@@ -31,6 +33,7 @@ const KINDS: [Kind; 14] = [
 #[test]
 fn library_agrees_with_reference() {
     let mut totals = [0; STATUSES];
+    let mut reasons = BTreeMap::new();
     let mut instructions = Instructions::default();
     println!(
         "{:24}{:>10}  by status 0 to 5",
@@ -47,6 +50,10 @@ fn library_agrees_with_reference() {
         for (total, count) in totals.iter_mut().zip(comparison.counts) {
             *total += count;
         }
+        for (first, more) in comparison.reasons {
+            let counted: &mut Reasons = reasons.entry(first).or_default();
+            counted.merge(&more);
+        }
         instructions.merge(&comparison.instructions);
     }
     report("total", totals);
@@ -58,7 +65,23 @@ fn library_agrees_with_reference() {
         totals.iter().all(|&total| total > 0),
         "a status from 0 to 5 never occurred"
     );
+    check_reasons(&reasons);
     instructions.print("accepted, by instruction", |_| true);
+}
+
+/// The reasons that a prefix can have, by its first byte. C5 has neither W nor the rows that ask for
+/// a width. C4 has no fixed bits, b or z. Under 62 another W is another row or none.
+const REASONS: [(u8, &[u32]); 3] = [(0x62, &[1, 3, 4, 5, 6]), (0xC4, &[2, 3, 4]), (0xC5, &[4])];
+
+fn check_reasons(reasons: &BTreeMap<u8, Reasons>) {
+    Reasons::print_head("reasons by first byte");
+    let mut found = Vec::new();
+    for (first, reasons) in reasons.iter().filter(|(_, r)| r.sum() > 0) {
+        reasons.print(&format!("{first:02X}"));
+        found.push((*first, reasons.found()));
+    }
+    let expected = REASONS.map(|(first, reasons)| (first, reasons.to_vec()));
+    assert_eq!(found, expected, "reasons of each first byte");
 }
 
 fn report(name: &str, counts: [u64; STATUSES]) {
@@ -185,7 +208,7 @@ fn bit_flips(comparison: &mut Comparison) {
 fn truncations(comparison: &mut Comparison) {
     for (_, code) in samples(7, 1_000) {
         for length in 0..code.len() {
-            let status = comparison.check_part(&code, length, ALL);
+            let status = comparison.check_part(&code, length, ALL).status;
             assert_eq!(status, 2, "{length} bytes of {code:02X?}");
         }
     }

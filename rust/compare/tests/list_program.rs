@@ -83,6 +83,15 @@ fn program_prints_listings() {
         &format!("{HEADINGS}{lines}"),
     );
 
+    // Behind answer 4 stands the first of the wrong fields: here width, and behind it b and z.
+    let reserved = [&SHORTEST[..], &[0x62, 0xF2, 0x6D, 0xF8, 0x00, 0xCB]].concat();
+    let text = format!("{HEADINGS}{}4\t0\t-\t0\t4:3\n", lines_of(1));
+    check(program, &reserved, &text);
+
+    check_long_lists(program);
+}
+
+fn check_long_lists(program: &Path) {
     let full = SHORTEST.repeat(LIMIT / SHORTEST.len());
     assert_eq!(full.len(), LIMIT);
     check(program, &full, &format!("{HEADINGS}{}", lines_of(1_024)));

@@ -1,13 +1,15 @@
-//! A listing of the library has the same bytes as one of the reference, and as document 01 shows.
+//! A listing of the library has the same bytes as one of the reference, and as document 01 and
+//! request 3 show.
 
 use compare::faults::Fault;
 use compare::form::Form;
 use compare::instructions::Instructions;
 use compare::limits::features::ALL;
+use compare::limits::OLD_TEXT_SIZE;
 use compare::listings::{Case, Comparison};
 use compare::lists::{List, Mix};
 use compare::random::Random;
-use compare::tally::Table;
+use compare::tally::{Reasons, Table};
 use tarhuspo::limits::{CODE_LIMIT, TEXT_SIZE};
 use tarhuspo::Listed;
 
@@ -33,12 +35,14 @@ const KINDS: [Kind; 9] = [
 fn library_agrees_with_reference() {
     let mut table = Table::new("compared listings", &[0, 1, 8]);
     let mut last_lines = Vec::new();
+    let mut reasons = Reasons::default();
     let mut instructions = Instructions::default();
     for (name, compare_all) in KINDS {
         let mut comparison = Comparison::default();
         compare_all(&mut comparison);
         table.line(name, comparison.counts);
         last_lines.push((name, comparison.last_lines));
+        reasons.merge(&comparison.reasons);
         instructions.merge(&comparison.instructions);
     }
     table.finish(LEAST);
@@ -49,6 +53,7 @@ fn library_agrees_with_reference() {
         table.line(name, counts);
     }
     table.finish(1);
+    reasons.finish("last lines by reason");
     instructions.print("lines by instruction", |_| true);
 }
 
@@ -77,8 +82,19 @@ fn written_out(comparison: &mut Comparison) {
     check_text(
         comparison,
         &[0xC5, 0xE9, 0x70, 0xCA, 0x1B],
-        "0\t0\t-\t0\t4\n",
+        "0\t0\t-\t0\t4:4\n",
     );
+    every_name(comparison);
+
+    let many = [0xC5, 0xE8, 0x14, 0xCB].repeat(CODE_LIMIT / 4);
+    let places = (0..CODE_LIMIT).step_by(4);
+    let lines: String = places
+        .map(|place| format!("{place}\t4\tVUNPCKLPS\t128\t0\n"))
+        .collect();
+    check_text(comparison, &many, &lines);
+}
+
+fn every_name(comparison: &mut Comparison) {
     let names: [&[u8]; 10] = [
         &[0xC4, 0xE3, 0x7D, 0x05, 0xCA, 0x05],
         &[0x62, 0xF2, 0x6D, 0x48, 0x8D, 0x8C, 0x24, 1, 2, 3, 4],
@@ -97,13 +113,6 @@ fn written_out(comparison: &mut Comparison) {
                  49\t5\tVUNPCKLPD\t256\t0\n54\t6\tVUNPCKHPD\t512\t0\n\
                  60\t6\tVPSHUFB\t512\t0\n";
     check_text(comparison, &names.concat(), lines);
-
-    let many = [0xC5, 0xE8, 0x14, 0xCB].repeat(CODE_LIMIT / 4);
-    let places = (0..CODE_LIMIT).step_by(4);
-    let lines: String = places
-        .map(|place| format!("{place}\t4\tVUNPCKLPS\t128\t0\n"))
-        .collect();
-    check_text(comparison, &many, &lines);
 }
 
 /// Calls `each` with `count` lists of at most `most` steps of every form, and a case that has their
@@ -156,16 +165,25 @@ fn every_form(comparison: &mut Comparison) {
 
 /// The first refusal ends the text, whatever follows it.
 fn bad_steps(comparison: &mut Comparison) {
-    let faults = [(Fault::Short, 2), (Fault::NoRow, 3), (Fault::Reserved, 4)];
+    let faults = [
+        (Fault::Short, 2),
+        (Fault::NoRow, 3),
+        (Fault::Reserved, 4),
+        (Fault::SeveralReserved, 4),
+    ];
     for_lists(3, 1_000, 9, |list, case, random| {
         let (fault, status) = random.pick(&faults);
         let Some(bad) = fault.encode(ALL, random) else {
             return;
         };
         case.behind = random.bytes(8);
+        let answer = match bad.reason {
+            0 => format!("{status}"),
+            reason => format!("{status}:{reason}"),
+        };
         for position in 0..=list.count() {
             case.code = fault.insert(list, position, &bad);
-            let last = format!("\n{}\t0\t-\t0\t{status}\n", list.end_of(position));
+            let last = format!("\n{}\t0\t-\t0\t{answer}\n", list.end_of(position));
             check_lines(comparison, case, position + 1, &last);
         }
     });
@@ -192,12 +210,13 @@ fn check_refused(comparison: &mut Comparison, case: &Case, status: u32) {
 
 /// Text that is too small answers 1 whatever the code is, and before 8.
 fn text_sizes(comparison: &mut Comparison) {
+    assert_eq!((OLD_TEXT_SIZE, TEXT_SIZE), (25_624, 27_672));
     for_lists(5, 60, 12, |list, case, random| {
         let mut codes = vec![vec![], list.code.clone(), random.bytes(9)];
         codes.extend([CODE_LIMIT, CODE_LIMIT + 1].map(|length| random.bytes(length)));
         for code in codes {
             case.code = code;
-            for size in [0, 1, 24, TEXT_SIZE - 1] {
+            for size in [0, 1, 24, OLD_TEXT_SIZE, TEXT_SIZE - 1] {
                 case.text_size = size;
                 check_refused(comparison, case, 1);
             }

@@ -6,7 +6,7 @@ use compare::limits::features::{ALL, SETS};
 use compare::lists::{List, Mix};
 use compare::random::Random;
 use compare::running::{Case, Comparison};
-use compare::tally::Table;
+use compare::tally::{Reasons, Table};
 use tarhuspo::limits::{CODE_LIMIT, FILE_SIZE, MASK_COUNT, MOST_STEPS};
 use tarhuspo::Ran;
 
@@ -33,17 +33,20 @@ const KINDS: [Kind; 9] = [
 fn library_agrees_with_reference() {
     let mut table = Table::new("compared runs", &[0, 1, 2, 3, 4, 5, 6, 8]);
     let mut lists = 0;
+    let mut reasons = Reasons::default();
     let mut instructions = Instructions::default();
     for (name, compare_all) in KINDS {
         let mut comparison = Comparison::default();
         compare_all(&mut comparison);
         table.line(name, comparison.counts);
         lists += comparison.lists;
+        reasons.merge(&comparison.reasons);
         instructions.merge(&comparison.instructions);
     }
     table.finish(LEAST_RUNS);
     println!("{lists} lists");
     assert!(lists >= LEAST_LISTS, "fewer than {LEAST_LISTS} lists");
+    reasons.finish("runs by reason");
     instructions.print("steps by instruction", |form| !form.shape.memory);
 }
 
@@ -73,6 +76,7 @@ fn accepted(list: &List, budget: u64) -> Ran {
         steps,
         place: list.end_of(steps as usize) as u64,
         status: 0,
+        reason: 0,
     }
 }
 
@@ -81,6 +85,7 @@ fn refused(status: u32) -> Ran {
         steps: 0,
         place: 0,
         status,
+        reason: 0,
     }
 }
 
@@ -137,6 +142,7 @@ fn check_fault(
         let steps = position as u64;
         let at_fault = Ran {
             status,
+            reason: bad.reason,
             ..accepted(list, steps)
         };
         for budget in [0, 1, steps, steps + 1, MOST_STEPS, u64::MAX] {
@@ -187,7 +193,7 @@ fn check_parts(comparison: &mut Comparison, case: &mut Case, n: u64, m: u64) {
     let sum = Ran {
         steps: first.steps + second.steps,
         place: first.place + second.place,
-        status: second.status,
+        ..second
     };
     let parts = (sum, comparison.file());
     assert_eq!(

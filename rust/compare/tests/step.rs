@@ -8,7 +8,7 @@ use compare::limits::features::{ALL, SETS};
 use compare::limits::{FILE_SIZE, MASK_COUNT};
 use compare::random::Random;
 use compare::stepping::{Case, Comparison};
-use compare::tally::Table;
+use compare::tally::{Reasons, Table};
 
 const LEAST: u64 = 1_000_000;
 
@@ -38,14 +38,17 @@ const KINDS: [Kind; 17] = [
 #[test]
 fn library_agrees_with_reference() {
     let mut table = Table::new("compared steps", &[0, 1, 2, 3, 4, 5, 6]);
+    let mut reasons = Reasons::default();
     let mut coverage = Coverage::default();
     for (name, compare_all) in KINDS {
         let mut comparison = Comparison::default();
         compare_all(&mut comparison);
         table.line(name, comparison.counts);
+        reasons.merge(&comparison.reasons);
         coverage.merge(&comparison.coverage);
     }
     table.finish(LEAST);
+    reasons.finish("steps by reason");
     coverage.check_complete();
 }
 

@@ -55,8 +55,24 @@ fn assert_refused(
 ) {
     let start = file(size);
     let (stepped, left) = step(code, &start, masks, features, memory);
-    assert_eq!(stepped, Stepped { status, length: 0 });
+    assert_eq!(stepped, refused(status, 0));
     assert!(left == start, "a refusal changed the file");
+}
+
+fn refused(status: u32, reason: u32) -> Stepped {
+    Stepped {
+        status,
+        length: 0,
+        reason,
+    }
+}
+
+fn done(length: u32) -> Stepped {
+    Stepped {
+        status: 0,
+        length,
+        reason: 0,
+    }
 }
 
 #[test]
@@ -95,13 +111,7 @@ fn empty_buffers_are_refused() {
     assert_refused(&[], 2_048, &[0; 8], ALL, &[], 2);
     assert_refused(&[], 0, &[], u32::MAX, &[], 1);
     let stepped = tarhuspo::step(&[], &mut [], &[], 0, &[]);
-    assert_eq!(
-        stepped,
-        Stepped {
-            status: 1,
-            length: 0
-        }
-    );
+    assert_eq!(stepped, refused(1, 0));
 }
 
 #[test]
@@ -125,7 +135,9 @@ fn faults_of_the_code_come_before_the_memory() {
     assert_refused(&MEMORY_FORM[..6], 2_048, &[0; 8], ALL, &[], 2);
     assert_refused(&[0x90; 15], 2_048, &[0; 8], ALL, &[0], 3);
     let vvvv = [0xC5, 0xE9, 0x70, 0xCA, 0x1B];
-    assert_refused(&vvvv, 2_048, &[0; 8], 0, &[0], 4);
+    let start = file(2_048);
+    let reserved = step(&vvvv, &start, &[0; 8], 0, &[0]);
+    assert_eq!(reserved, (refused(4, 4), start));
     assert_refused(&MEMORY_FORM, 2_048, &[0; 8], 3, &[], 5);
 }
 
@@ -137,28 +149,20 @@ fn accepted_steps_change_their_destination_alone() {
     for (i, byte) in expected[64..80].iter_mut().enumerate() {
         *byte = start[128 + 4 * (3 - i / 4) + i % 4];
     }
-    let done = Stepped {
-        status: 0,
-        length: 5,
-    };
     assert_eq!(
         step(&REGISTER_FORM, &start, &[0; 8], 1, &[]),
-        (done, expected)
+        (done(5), expected)
     );
 
     // Merging with an opmask that lets nothing through keeps all 64 bytes.
     let memory = file(64);
-    let done = Stepped {
-        status: 0,
-        length: 7,
-    };
     let kept = step(&MEMORY_FORM, &start, &[0; 8], ALL, &memory);
-    assert_eq!(kept, (done, start.clone()));
+    assert_eq!(kept, (done(7), start.clone()));
 
     let mut expected = start.clone();
     expected[64..128].copy_from_slice(&[9, 8, 7, 6].repeat(16));
     let repeated = step(&BROADCAST_FORM, &start, &[0; 8], ALL, &[9, 8, 7, 6]);
-    assert_eq!(repeated, (done, expected));
+    assert_eq!(repeated, (done(7), expected));
 }
 
 #[test]

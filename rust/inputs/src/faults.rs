@@ -5,6 +5,8 @@ use crate::form::Form;
 use crate::limits::features::ALL;
 use crate::lists::{List, Mix};
 use crate::random::Random;
+use crate::reserved::{possible_pairs, Field, Pair, Wrong};
+use std::sync::LazyLock;
 
 /// Why an instruction is refused.
 #[derive(Debug, Clone, Copy, PartialEq, Eq)]
@@ -12,7 +14,10 @@ pub enum Fault {
     /// The bytes end inside the instruction. Nothing can follow it.
     Short,
     NoRow,
+    /// One reserved field is wrong.
     Reserved,
+    /// Two or more reserved fields are.
+    SeveralReserved,
     Feature,
     /// A memory operand.
     Memory,
@@ -20,20 +25,29 @@ pub enum Fault {
     Control,
 }
 
+/// A refused instruction, with its reason: 1 to 6 if a reserved field is wrong, else 0.
+#[derive(Debug, Clone)]
+pub struct Bad {
+    pub code: Vec<u8>,
+    pub reason: u32,
+}
+
 /// The faults of a run, with their statuses.
-pub const RUN_FAULTS: [(Fault, u32); 5] = [
+pub const RUN_FAULTS: [(Fault, u32); 6] = [
     (Fault::Short, 2),
     (Fault::NoRow, 3),
     (Fault::Reserved, 4),
+    (Fault::SeveralReserved, 4),
     (Fault::Feature, 5),
     (Fault::Memory, 6),
 ];
 
 /// The faults of building a byte map, with their statuses.
-pub const BUILD_FAULTS: [(Fault, u32); 6] = [
+pub const BUILD_FAULTS: [(Fault, u32); 7] = [
     (Fault::Short, 2),
     (Fault::NoRow, 3),
     (Fault::Reserved, 4),
+    (Fault::SeveralReserved, 4),
     (Fault::Feature, 5),
     (Fault::Memory, 7),
     (Fault::Control, 7),
@@ -47,10 +61,11 @@ pub const FEATURE_SETS: [u32; 9] = [
 
 impl Fault {
     /// An instruction with this fault and no other, or nothing if these features have none.
-    pub fn encode(self, features: u32, random: &mut Random) -> Option<Vec<u8>> {
+    pub fn encode(self, features: u32, random: &mut Random) -> Option<Bad> {
         let mix = match self {
-            Fault::NoRow => return Some(no_row(random)),
+            Fault::NoRow => return Some(without_reason(no_row(random))),
             Fault::Reserved => return Some(reserved(random)),
+            Fault::SeveralReserved => return Some(several_reserved(random)),
             Fault::Short => Mix::of(|form| form.is_enabled(features)),
             Fault::Feature => Mix::of(|form| !form.is_enabled(features)),
             Fault::Memory => Mix::of(|form| form.is_enabled(features) && form.shape.memory),
@@ -65,16 +80,20 @@ impl Fault {
         if self == Fault::Short {
             code.truncate(1 + random.below(code.len() - 1));
         }
-        Some(code)
+        Some(without_reason(code))
     }
 
     /// The list with `bad` at `position`: in front of the instruction that is there, or alone at
     /// the end if nothing can follow.
-    pub fn insert(self, list: &List, position: usize, bad: &[u8]) -> Vec<u8> {
+    pub fn insert(self, list: &List, position: usize, bad: &Bad) -> Vec<u8> {
         let (before, behind) = list.code.split_at(list.end_of(position));
         let behind = if self == Fault::Short { &[] } else { behind };
-        [before, bad, behind].concat()
+        [before, &bad.code, behind].concat()
     }
+}
+
+fn without_reason(code: Vec<u8>) -> Bad {
+    Bad { code, reason: 0 }
 }
 
 /// An encoding that no row has: by its first byte, its opcode, or its EVEX W. None of them belongs to
@@ -92,53 +111,27 @@ fn no_row(random: &mut Random) -> Vec<u8> {
     code
 }
 
-/// An encoding with one reserved field that is wrong.
-fn reserved(random: &mut Random) -> Vec<u8> {
-    // A row, and the bits that break it: byte, bits to set, bits to clear.
-    type Broken = (fn(Form) -> bool, usize, u8, u8);
-    const BROKEN: [Broken; 11] = [
-        (is_register_evex, 1, 0x04, 0),
-        (is_register_evex, 1, 0x08, 0),
-        (is_register_evex, 2, 0, 0x04),
-        // Width 3, broadcast from a register, zeroing without opmask.
-        (is_register_evex, 3, 0x60, 0),
-        (is_register_evex, 3, 0x10, 0),
-        (is_register_evex, 3, 0x80, 0x07),
-        // Broadcast from memory of a row that has none.
-        (is_whole_memory_evex, 3, 0x10, 0),
-        // vvvv and V' without a first source.
-        (is_one_source_evex, 2, 0, 0x08),
-        (is_one_source_evex, 3, 0, 0x08),
-        // W 1 where it must be 0, and L 0 of VPERM2F128.
-        (is_w0_vex, 2, 0x80, 0),
-        (is_vperm2f128, 2, 0, 0x04),
-    ];
-    let (fits, at, set, clear) = random.pick(&BROKEN);
-    let mut code = Mix::of(fits).instruction(32, random);
-    code[at] = (code[at] | set) & !clear;
-    code
+/// An encoding with one reserved field that is wrong, each of the six as often.
+fn reserved(random: &mut Random) -> Bad {
+    let field = random.pick(&Field::ALL);
+    wrong(&Wrong::single(field), random)
+}
+
+/// An encoding with two or more of them, each pair as often as the first two.
+fn several_reserved(random: &mut Random) -> Bad {
+    static PAIRS: LazyLock<Vec<Pair>> = LazyLock::new(possible_pairs);
+    let pair = random.pick(&PAIRS);
+    wrong(&Wrong::several(pair), random)
+}
+
+fn wrong(choices: &[&Wrong], random: &mut Random) -> Bad {
+    let wrong = random.pick(choices);
+    Bad {
+        code: wrong.encode(random),
+        reason: wrong.reason(),
+    }
 }
 
 fn is_evex(form: Form) -> bool {
     form.shape.prefix == Prefix::Evex
-}
-
-fn is_register_evex(form: Form) -> bool {
-    is_evex(form) && !form.shape.memory
-}
-
-fn is_whole_memory_evex(form: Form) -> bool {
-    is_evex(form) && form.shape.memory && !form.shape.row.broadcast
-}
-
-fn is_one_source_evex(form: Form) -> bool {
-    is_register_evex(form) && !form.shape.row.first
-}
-
-fn is_w0_vex(form: Form) -> bool {
-    form.shape.prefix == Prefix::Vex3 && !form.shape.row.vex_any_w && !form.shape.memory
-}
-
-fn is_vperm2f128(form: Form) -> bool {
-    form.shape.row.name == "VPERM2F128" && !form.shape.memory
 }

@@ -12,5 +12,6 @@ pub mod form;
 pub mod limits;
 pub mod lists;
 pub mod random;
+pub mod reserved;
 pub mod state;
 pub mod tally;

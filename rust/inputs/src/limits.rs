@@ -10,8 +10,9 @@ pub const CODE_LIMIT: usize = 4_096;
 pub const MAP_SIZE: usize = FILE_SIZE;
 /// The byte map entry for a zero byte.
 pub const MAP_ZERO: u16 = 2_048;
-/// Least bytes of the listing's text.
-pub const TEXT_SIZE: usize = 25_624;
+/// Least bytes of the listing's text, and what that was before request 3.
+pub const TEXT_SIZE: usize = 27_672;
+pub const OLD_TEXT_SIZE: usize = 25_624;
 
 /// Feature bits.
 pub mod features {

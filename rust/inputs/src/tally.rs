@@ -1,4 +1,4 @@
-//! Counts of cases by kind of input and by status, as a table.
+//! Counts of cases by kind of input and by status, as a table, and of refusals with 4 by reason.
 
 /// The library's statuses are 0 to 9.
 const STATUSES: usize = 10;
@@ -33,6 +33,70 @@ impl Counts {
         for (count, more) in self.0.iter_mut().zip(other.0) {
             *count += more;
         }
+    }
+}
+
+/// How many refusals with 4 had each reason.
+#[derive(Debug, Default, Clone, Copy)]
+pub struct Reasons([u64; 6]);
+
+impl Reasons {
+    /// Counts one case of any status.
+    ///
+    /// # Panics
+    ///
+    /// If status 4 comes with another reason than 1 to 6, or another status with a reason.
+    pub fn add(&mut self, status: u32, reason: u32) {
+        match (status, reason) {
+            (4, 1..=6) => self.0[reason as usize - 1] += 1,
+            (4, _) | (_, 1..) => panic!("status {status} with reason {reason}"),
+            _ => {}
+        }
+    }
+
+    /// The number of cases with this reason.
+    pub fn of(&self, reason: u32) -> u64 {
+        let at = (reason as usize).checked_sub(1);
+        at.and_then(|at| self.0.get(at)).copied().unwrap_or(0)
+    }
+
+    pub fn sum(&self) -> u64 {
+        self.0.iter().sum()
+    }
+
+    /// The reasons that occurred.
+    pub fn found(&self) -> Vec<u32> {
+        (1..=6).filter(|&reason| self.of(reason) > 0).collect()
+    }
+
+    pub fn merge(&mut self, other: &Reasons) {
+        for (count, more) in self.0.iter_mut().zip(other.0) {
+            *count += more;
+        }
+    }
+
+    /// Prints the head of a table of reasons.
+    pub fn print_head(what: &str) {
+        let titles = ["reason 1", "2", "3", "4", "5", "6"];
+        let titles: String = titles.iter().map(|title| format!(" {title:>8}")).collect();
+        println!("{what:26}{:>9}{titles}", "status 4");
+    }
+
+    /// Prints a line of it.
+    pub fn print(&self, name: &str) {
+        let columns: String = self.0.iter().map(|count| format!(" {count:>8}")).collect();
+        println!("{name:26}{:>9}{columns}", self.sum());
+    }
+
+    /// Prints them as a table with one line.
+    ///
+    /// # Panics
+    ///
+    /// If one of the six never occurred.
+    pub fn finish(&self, what: &str) {
+        Reasons::print_head(what);
+        self.print("total");
+        assert_eq!(self.found(), [1, 2, 3, 4, 5, 6], "reasons that occurred");
     }
 }
 

@@ -5,11 +5,13 @@ use crate::limits::{check_code, check_masks, FILE_SIZE, MAP_SIZE, MAP_ZERO};
 use crate::refusal::{status, Refusal, DONE};
 use crate::run::run;
 
-/// The refused step's place, or the list's length, and the answer.
+/// The refused step's place, or the list's length, and the answer with its reason.
 #[derive(Debug, Clone, Copy, PartialEq, Eq, Default)]
 pub struct Built {
     pub place: u64,
     pub status: u32,
+    /// As in [`Decoded`](crate::Decoded).
+    pub reason: u32,
 }
 
 /// Writes the byte map of the list `code` into `map`.
@@ -20,11 +22,13 @@ pub fn build(code: &[u8], masks: &[u64], features: u32, map: &mut [u16]) -> Buil
             Built {
                 place: code.len() as u64,
                 status: DONE,
+                reason: 0,
             }
         }
         Err((place, refusal)) => Built {
             place: place as u64,
             status: refusal.number(),
+            reason: refusal.reason(),
         },
     }
 }

@@ -1,12 +1,12 @@
 //! Decoding one instruction: document 01's prefix layouts, its instruction table with the rows of
-//! request 1, and the order of its refusals.
+//! request 1, and the order of its refusals with the reasons of request 3.
 
 use crate::limits::{check_features, feature};
 use crate::prefix::{Encoding, Prefix};
 use crate::refusal::{Refusal, DONE};
 use crate::table::{find, Mnemonic, Row};
 
-/// A decoding. All fields but the status are 0 when the status is not 0.
+/// A decoding. All fields but status and reason are 0 when the status is not 0.
 #[derive(Debug, Clone, Copy, PartialEq, Eq, Default)]
 pub struct Decoded {
     pub status: u32,
@@ -23,6 +23,8 @@ pub struct Decoded {
     pub broadcast: u32,
     pub has_immediate: u32,
     pub immediate: u32,
+    /// With status 4 the number of the first wrong field, 1 to 6 (request 3). Else 0.
+    pub reason: u32,
 }
 
 /// The reserved fields of answer 4, in the order they are looked at.
@@ -37,6 +39,20 @@ pub enum Field {
     Vvvv,
     Broadcast,
     Zeroing,
+}
+
+impl Field {
+    /// The number that stands for it as a reason, and behind the colon in a listing (request 3).
+    pub fn number(self) -> u32 {
+        match self {
+            Field::FixedBits => 1,
+            Field::W => 2,
+            Field::Width => 3,
+            Field::Vvvv => 4,
+            Field::Broadcast => 5,
+            Field::Zeroing => 6,
+        }
+    }
 }
 
 /// Where the third operand is.
@@ -84,6 +100,7 @@ pub fn decode(code: &[u8], features: u32) -> Decoded {
         Ok(instruction) => decoded(&instruction),
         Err(refusal) => Decoded {
             status: refusal.number(),
+            reason: refusal.reason(),
             ..Decoded::default()
         },
     }
@@ -117,6 +134,7 @@ fn decoded(instruction: &Instruction) -> Decoded {
         broadcast: u32::from(broadcast),
         has_immediate: u32::from(instruction.row.has_immediate),
         immediate: u32::from(instruction.immediate),
+        reason: 0,
     }
 }
 
@@ -158,7 +176,7 @@ fn instruction(prefix: &Prefix, row: &'static Row, tail: &Tail) -> Instruction {
     }
 }
 
-/// The checks of answer 4 that follow the row.
+/// The first of the fields that is wrong, of those that are looked at once the row is known.
 fn wrong_field(prefix: &Prefix, row: &Row, modrm: ModRm) -> Option<Field> {
     let vex = row.vex.filter(|_| prefix.encoding == Encoding::Vex);
     let w = vex.is_some_and(|vex| prefix.w == 1 && !vex.allows_w1);

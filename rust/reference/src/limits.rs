@@ -16,8 +16,8 @@ pub const CODE_LIMIT: usize = 4_096;
 pub const MAP_SIZE: usize = FILE_SIZE;
 /// The byte map entry for a zero byte.
 pub const MAP_ZERO: u16 = 2_048;
-/// Least bytes of the listing's text.
-pub const TEXT_SIZE: usize = 25_624;
+/// Least bytes of the listing's text (request 3): the header, and 27 for each of 1,024 lines.
+pub const TEXT_SIZE: usize = 27_672;
 
 /// Feature bits.
 pub mod feature {

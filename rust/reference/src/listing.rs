@@ -37,7 +37,7 @@ fn accept(code: &[u8], text: &[u8]) -> Result<(), Refusal> {
     check_code(code)
 }
 
-/// The whole text. It fits: a header of 24 bytes and at most 1,024 lines of at most 25.
+/// The whole text. It fits: a header of 24 bytes and at most 1,024 lines of at most 27.
 fn lines(code: &[u8]) -> String {
     let mut lines = String::from("at\tlen\tname\tbits\tanswer\n");
     let mut place = 0;
@@ -64,6 +64,15 @@ fn accepted_line(place: usize, instruction: &Instruction) -> String {
 }
 
 fn refused_line(place: usize, refusal: Refusal) -> String {
-    let answer = refusal.number();
+    let answer = answer_field(refusal);
     format!("{place}\t0\t-\t0\t{answer}\n")
+}
+
+/// The number of the refusal, and for answer 4 a colon and the reason (request 3).
+fn answer_field(refusal: Refusal) -> String {
+    let number = refusal.number();
+    match refusal {
+        Refusal::Reserved(field) => format!("{number}:{}", field.number()),
+        _ => number.to_string(),
+    }
 }

@@ -1,4 +1,4 @@
-//! The refusals, with document 01's numbers.
+//! The refusals, with document 01's numbers and the reasons of request 3.
 
 use crate::decode::Field;
 
@@ -40,6 +40,14 @@ impl Refusal {
             Refusal::Unmappable => 7,
             Refusal::CodeLimit => 8,
             Refusal::MapEntry => 9,
+        }
+    }
+
+    /// The wrong field's number for answer 4, and 0 for every other (request 3).
+    pub(crate) fn reason(self) -> u32 {
+        match self {
+            Refusal::Reserved(field) => field.number(),
+            _ => 0,
         }
     }
 }

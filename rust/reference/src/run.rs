@@ -4,12 +4,15 @@ use crate::limits::{check_code, check_state};
 use crate::refusal::{Refusal, DONE};
 use crate::step::step;
 
-/// How many steps were done, the place of the next or the refused one, and the answer.
+/// How many steps were done, the place of the next or the refused one, and the answer with its
+/// reason.
 #[derive(Debug, Clone, Copy, PartialEq, Eq, Default)]
 pub struct Ran {
     pub steps: u64,
     pub place: u64,
     pub status: u32,
+    /// As in [`Decoded`](crate::Decoded).
+    pub reason: u32,
 }
 
 /// Runs the steps of `code` with no memory operand, at most `budget` of them.
@@ -20,6 +23,7 @@ pub fn run(code: &[u8], file: &mut [u8], masks: &[u64], features: u32, budget: u
             steps: 0,
             place: 0,
             status: refusal.number(),
+            reason: refusal.reason(),
         },
     }
 }
@@ -33,11 +37,11 @@ fn accept(code: &[u8], file: &[u8], masks: &[u64], features: u32) -> Result<(), 
 fn run_steps(code: &[u8], file: &mut [u8], masks: &[u64], features: u32, budget: u64) -> Ran {
     let mut steps = 0;
     let mut place = 0;
-    let mut status = DONE;
+    let (mut status, mut reason) = (DONE, 0);
     while steps < budget && place < code.len() {
         let stepped = step(&code[place..], file, masks, features, &[]);
         if stepped.status != DONE {
-            status = stepped.status;
+            (status, reason) = (stepped.status, stepped.reason);
             break;
         }
         steps += 1;
@@ -47,5 +51,6 @@ fn run_steps(code: &[u8], file: &mut [u8], masks: &[u64], features: u32, budget:
         steps,
         place: place as u64,
         status,
+        reason,
     }
 }

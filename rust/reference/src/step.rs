@@ -10,6 +10,8 @@ use crate::table::Mnemonic;
 pub struct Stepped {
     pub status: u32,
     pub length: u32,
+    /// As in [`Decoded`](crate::Decoded).
+    pub reason: u32,
 }
 
 /// Decodes the instruction at the start of `code` and carries it out on `file`.
@@ -20,11 +22,13 @@ pub fn step(code: &[u8], file: &mut [u8], masks: &[u64], features: u32, memory: 
             Stepped {
                 status: DONE,
                 length: instruction.length as u32,
+                reason: 0,
             }
         }
         Err(refusal) => Stepped {
             status: refusal.number(),
             length: 0,
+            reason: refusal.reason(),
         },
     }
 }

@@ -21,6 +21,7 @@ pub mod reader;
 pub mod records;
 pub mod report;
 pub mod request_1;
+pub mod request_3;
 pub mod results;
 pub mod room;
 pub mod rules;

@@ -251,7 +251,7 @@ impl Request1 {
     }
 
     /// The text of a listing, which decodes with all features that there are.
-    fn lines(self, code: &[u8]) -> String {
+    pub fn lines(self, code: &[u8]) -> String {
         let mut lines = "at\tlen\tname\tbits\tanswer\n".to_string();
         let mut place = 0;
         while place < code.len() {

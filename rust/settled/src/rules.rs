@@ -3,6 +3,7 @@
 use crate::answer::Answer;
 use crate::input::Input;
 use crate::request_1::Request1;
+use crate::request_3;
 
 /// One reason of a change request for another answer.
 pub struct Rule {
@@ -50,6 +51,11 @@ pub const RULES: &[Rule] = &[
         name: "bytes that answered 3 follow the new rows",
         explains: |input, old, new| !has_feature_5(input) && is_request_1(input, old, new),
     },
+    Rule {
+        request: 3,
+        name: "text of 25,624 to 27,671 bytes is refused",
+        explains: is_request_3,
+    },
 ];
 
 /// Features that request 1 no longer refuses. With fewer, and in listings, which take none, its new
@@ -58,8 +64,22 @@ fn has_feature_5(input: &Input) -> bool {
     matches!(input.features(), Some(32..=63))
 }
 
-/// Whether the two answers are those from before the request and from after it, in every part.
+/// Whether the two answers are those from before the request and from after it, in every part. Not
+/// for texts that request 3 refuses: there its rule speaks for both.
 fn is_request_1(input: &Input, old: &Answer, new: &Answer) -> bool {
+    if matches!(input, Input::Listing(listing) if request_3::is_too_short_now(listing)) {
+        return false;
+    }
     let [before, after] = [Request1::Before, Request1::After].map(|request| request.answer(input));
     before.as_ref() == Some(old) && after.as_ref() == Some(new)
+}
+
+/// Whether a listing's text has become too short, the old answer is the base's, and the new one is 1
+/// with no byte written. Whether request 1 would have changed the text does not matter then.
+fn is_request_3(input: &Input, old: &Answer, new: &Answer) -> bool {
+    let Input::Listing(listing) = input else {
+        return false;
+    };
+    let is_base = Request1::Before.answer(input).as_ref() == Some(old);
+    request_3::is_too_short_now(listing) && is_base && *new == request_3::refused(listing)
 }

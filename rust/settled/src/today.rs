@@ -3,7 +3,7 @@
 //! Where a request changes a function's parameters, its result or its limits, these functions
 //! follow it, and nothing else here does: each gives the library the base's input and turns what
 //! comes back into the base's form of an answer, with the same numbers and a digest of the same
-//! elements.
+//! elements. What the base's form has no place for is given by functions of its own.
 
 use crate::answer::Answer;
 use crate::decoded::Decoded;
@@ -21,6 +21,55 @@ pub fn answer(input: &Input) -> Answer {
         Input::Compose(input) => compose(input),
         Input::Listing(input) => listing(input),
     }
+}
+
+/// What request 3 gives beside the base's form: where an input was refused, and why.
+#[derive(Debug, Clone, Copy, PartialEq, Eq)]
+pub struct Refused {
+    pub status: u32,
+    /// Of the refused instruction in its list; 0 for one that stands alone.
+    pub place: u64,
+    pub reason: u32,
+}
+
+/// Calls the input's entry point; nothing for one that gives no reason.
+pub fn refused(input: &Input) -> Option<Refused> {
+    let (status, place, reason) = match input {
+        Input::Decode(i) => {
+            let decoded = tarhuspo::decode(&i.code, i.features);
+            (decoded.status, 0, decoded.reason)
+        }
+        Input::Step(i) => {
+            let step =
+                |file: &mut [u8]| tarhuspo::step(&i.code, file, &i.masks, i.features, &i.memory);
+            let (stepped, _) = i.file.call(step);
+            (stepped.status, 0, stepped.reason)
+        }
+        Input::Run(i) => {
+            let run =
+                |file: &mut [u8]| tarhuspo::run(&i.code, file, &i.masks, i.features, i.budget);
+            let (ran, _) = i.file.call(run);
+            (ran.status, ran.place, ran.reason)
+        }
+        Input::Build(i) => {
+            let build =
+                |map: &mut [u16]| tarhuspo::bytemap_build(&i.code, &i.masks, i.features, map);
+            let (built, _) = i.map.call(build);
+            (built.status, built.place, built.reason)
+        }
+        Input::Apply(_) | Input::Compose(_) | Input::Listing(_) => return None,
+    };
+    Some(Refused {
+        status,
+        place,
+        reason,
+    })
+}
+
+/// Lists into `text`, and gives status and bytes written.
+pub fn listed(code: &[u8], text: &mut [u8]) -> (u32, u64) {
+    let listed = tarhuspo::listing(code, text);
+    (listed.status, listed.written)
 }
 
 /// Decodes one instruction.
@@ -130,11 +179,10 @@ fn compose(input: &Compose) -> Answer {
 }
 
 fn listing(input: &Listing) -> Answer {
-    let list = |text: &mut [u8]| tarhuspo::listing(&input.code, text);
-    let (listed, digest) = input.text.call(list);
+    let ((status, written), digest) = input.text.call(|text| listed(&input.code, text));
     Answer {
-        status: listed.status,
-        numbers: vec![listed.written],
+        status,
+        numbers: vec![written],
         digest,
     }
 }

@@ -14,9 +14,11 @@ pub struct Built {
     pub place: u64,
     /// 0 if the map was written, else 1 to 5, 7 or 8; [`describe`](crate::describe) has each.
     pub status: u32,
+    /// With status 4, which reserved field is wrong: one of [`reason`](crate::reason). Else 0.
+    pub reason: u32,
 }
 
-// The proved library was compiled for this layout: a number of 8 bytes, one of 4, and padding.
+// The proved library was compiled for this layout: a number of 8 bytes, two of 4, no padding.
 const _: () = assert!(size_of::<Built>() == 16 && align_of::<Built>() == 8);
 
 /// Writes the byte map of a list of instructions into `map`, whatever that held before.

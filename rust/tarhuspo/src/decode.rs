@@ -2,7 +2,7 @@
 
 use crate::{ffi, mnemonic};
 
-/// What decoding found. Every field but `status` is 0 when `status` is not 0.
+/// What decoding found. Every field but `status` and `reason` is 0 when `status` is not 0.
 ///
 /// ```
 /// use tarhuspo::{decode, features};
@@ -43,10 +43,12 @@ pub struct Decoded {
     pub has_immediate: u32,
     /// The immediate byte, 0 where the form has none.
     pub immediate: u32,
+    /// With status 4, which reserved field is wrong: one of [`reason`](crate::reason). Else 0.
+    pub reason: u32,
 }
 
-// The proved library was compiled for this layout: 14 numbers of 4 bytes, no padding.
-const _: () = assert!(size_of::<Decoded>() == 56 && align_of::<Decoded>() == 4);
+// The proved library was compiled for this layout: 15 numbers of 4 bytes, no padding.
+const _: () = assert!(size_of::<Decoded>() == 60 && align_of::<Decoded>() == 4);
 
 impl Decoded {
     /// Whether the instruction has a first source. Forms with an immediate permute their third
@@ -80,6 +82,16 @@ impl Decoded {
 ///
 /// let refused = decode(&[], features::ALL);
 /// assert_eq!((refused.status, refused.length), (2, 0));
+/// ```
+///
+/// With status 4 comes the reserved field that is wrong:
+///
+/// ```
+/// use tarhuspo::{decode, features, reason};
+///
+/// // vpshufd has no first source, so vvvv must be 1111b.
+/// let refused = decode(&[0xC5, 0xE9, 0x70, 0xCA, 0x1B], features::ALL);
+/// assert_eq!((refused.status, refused.reason), (4, reason::VVVV));
 /// ```
 pub fn decode(code: &[u8], features: u32) -> Decoded {
     // SAFETY: a slice's pointer is non-null and valid for reads of its length, and the library

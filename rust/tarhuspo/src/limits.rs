@@ -29,4 +29,4 @@ pub const MAP_SIZE: usize = FILE_SIZE;
 /// The entry of a byte map that stands for a zero byte.
 pub const MAP_ZERO: u16 = 2_048;
 /// Least bytes of the text of a listing. Every listing fits.
-pub const TEXT_SIZE: usize = 25_624;
+pub const TEXT_SIZE: usize = 27_672;

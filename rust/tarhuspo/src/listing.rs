@@ -19,9 +19,10 @@ const _: () = assert!(size_of::<Listed>() == 16 && align_of::<Listed>() == 8);
 ///
 /// A line has the place, the length, the mnemonic, the vector width in bits and the status of the
 /// instruction, with tabs between. All features are there. The line of the first instruction that
-/// is refused is the last one; it has length 0, name `-` and width 0.
+/// is refused is the last one; it has length 0, name `-` and width 0. Status 4 is written with a
+/// colon and its [`reason`](crate::reason).
 ///
-/// `code` has at most 4,096 bytes, and `text` at least 25,624, which is enough for every list. Bytes
+/// `code` has at most 4,096 bytes, and `text` at least 27,672, which is enough for every list. Bytes
 /// of `text` behind the last line stay as they are.
 ///
 /// ```
@@ -38,6 +39,10 @@ const _: () = assert!(size_of::<Listed>() == 16 && align_of::<Listed>() == 8);
 ///      0\t5\tVPSHUFD\t128\t0\n\
 ///      5\t0\t-\t0\t2\n"
 /// );
+///
+/// // vpermb with b set, which it does not have.
+/// let listed = listing(&[0x62, 0xF2, 0x6D, 0x58, 0x8D, 0x08], &mut text);
+/// assert!(text[..listed.written as usize].ends_with(b"\n0\t0\t-\t0\t4:5\n"));
 /// ```
 pub fn listing(code: &[u8], text: &mut [u8]) -> Listed {
     // SAFETY: a slice's pointer is non-null, aligned and valid for its length, and `text` overlaps

@@ -13,9 +13,11 @@ pub struct Ran {
     /// 0 if the end was reached or the budget spent, else why the instruction at `place` was
     /// refused, or 1 or 8 with the two numbers 0; [`describe`](crate::describe) has each.
     pub status: u32,
+    /// With status 4, which reserved field is wrong: one of [`reason`](crate::reason). Else 0.
+    pub reason: u32,
 }
 
-// The proved library was compiled for this layout: two numbers of 8 bytes, one of 4, and padding.
+// The proved library was compiled for this layout: two numbers of 8 bytes, two of 4, no padding.
 const _: () = assert!(size_of::<Ran>() == 24 && align_of::<Ran>() == 8);
 
 /// Carries out the instructions of `code`, at most `budget` of them, one after the other.
@@ -41,6 +43,19 @@ const _: () = assert!(size_of::<Ran>() == 24 && align_of::<Ran>() == 8);
 /// // With the budget spent, the next instruction is not looked at.
 /// let ran = run(&code, &mut file, &masks, features::ALL, 2);
 /// assert_eq!((ran.steps, ran.place, ran.status), (2, 9, 0));
+/// ```
+///
+/// A reserved field that is wrong is named:
+///
+/// ```
+/// # use tarhuspo::limits::{FILE_SIZE, MASK_COUNT};
+/// use tarhuspo::{features, reason, run};
+///
+/// # let (mut file, masks) = ([1; FILE_SIZE], [0; MASK_COUNT]);
+/// // vunpcklps xmm1, xmm2, xmm3, then vperm2f128 with L 0.
+/// let code = [0xC5, 0xE8, 0x14, 0xCB, 0xC4, 0xE3, 0x69, 0x06, 0xCB, 0x31];
+/// let ran = run(&code, &mut file, &masks, features::ALL, 1_024);
+/// assert_eq!((ran.place, ran.status, ran.reason), (4, 4, reason::WIDTH));
 /// ```
 pub fn run(code: &[u8], file: &mut [u8], masks: &[u64], features: u32, budget: u64) -> Ran {
     // SAFETY: a slice's pointer is non-null, aligned and valid for its length, and `file` overlaps

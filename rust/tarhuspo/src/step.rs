@@ -10,10 +10,12 @@ pub struct Stepped {
     pub status: u32,
     /// Length of the instruction in bytes, 0 if it was refused.
     pub length: u32,
+    /// With status 4, which reserved field is wrong: one of [`reason`](crate::reason). Else 0.
+    pub reason: u32,
 }
 
-// The proved library was compiled for this layout: 2 numbers of 4 bytes, no padding.
-const _: () = assert!(size_of::<Stepped>() == 8 && align_of::<Stepped>() == 4);
+// The proved library was compiled for this layout: 3 numbers of 4 bytes, no padding.
+const _: () = assert!(size_of::<Stepped>() == 12 && align_of::<Stepped>() == 4);
 
 /// Carries out the instruction at the start of `code` on the register file.
 ///

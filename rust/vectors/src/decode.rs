@@ -15,8 +15,8 @@ pub struct Decode {
     pub code: Vec<u8>,
 }
 
-pub const KINDS: [Kind<Decode>; 13] = [
-    ("accepted", 7_000, accepted),
+pub const KINDS: [Kind<Decode>; 15] = [
+    ("accepted", 5_700, accepted),
     ("bytes behind", 1_500, bytes_behind),
     ("any features", 2_500, any_features),
     ("features over 63", 600, wrong_features),
@@ -25,6 +25,8 @@ pub const KINDS: [Kind<Decode>; 13] = [
     ("cut", 1_000, cut),
     ("no row", 600, no_row),
     ("reserved field", 1_000, reserved),
+    ("several reserved fields", 1_000, several_reserved),
+    ("reserved fields, cut", 300, reserved_and_cut),
     ("one bit flipped, cut", 788, flipped_and_cut),
     ("15 bytes from a prefix", 700, behind_prefix),
     ("any bytes", 300, any_bytes),
@@ -53,10 +55,12 @@ impl Input for Decode {
             d.broadcast,
             d.has_immediate,
             d.immediate,
+            d.reason,
         ];
         Answer {
             status: d.status,
             numbers: vec![d.length.into()],
+            reason: Some(d.reason),
             digest: Digest::of(&numbers),
         }
     }
@@ -90,6 +94,7 @@ fn wrong_features(maker: &mut Maker) -> Decode {
     match maker.random.below(4) {
         0 => maker.cut(&mut code),
         1 => maker.flip(&mut code),
+        2 => code = maker.fault(Fault::SeveralReserved),
         _ => {}
     }
     let features = maker.wrong_features();
@@ -120,6 +125,17 @@ fn no_row(maker: &mut Maker) -> Decode {
 
 fn reserved(maker: &mut Maker) -> Decode {
     fault(Fault::Reserved, maker)
+}
+
+fn several_reserved(maker: &mut Maker) -> Decode {
+    fault(Fault::SeveralReserved, maker)
+}
+
+/// Short bytes, or wrong fixed bits before that shows.
+fn reserved_and_cut(maker: &mut Maker) -> Decode {
+    let mut input = several_reserved(maker);
+    maker.cut(&mut input.code);
+    input
 }
 
 fn fault(fault: Fault, maker: &mut Maker) -> Decode {

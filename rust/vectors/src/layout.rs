@@ -9,7 +9,7 @@ pub const GUARD: usize = 8;
 pub const ROOM: usize = 2_560;
 pub const MOST: usize = ROOM - 2 * GUARD;
 /// The same for the listing's text.
-pub const TEXT_ROOM: usize = 26_112;
+pub const TEXT_ROOM: usize = 28_160;
 pub const TEXT_MOST: usize = TEXT_ROOM - 2 * GUARD;
 
 /// Most opmasks, bytes of memory and bytes of code of an input.

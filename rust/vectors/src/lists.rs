@@ -7,7 +7,7 @@ use crate::pools::{old_map, passed, Pools};
 use crate::section::{Answer, Input, Kind};
 use inputs::faults::{Fault, FEATURE_SETS};
 use inputs::limits::features::ALL;
-use inputs::limits::{CODE_LIMIT, TEXT_SIZE};
+use inputs::limits::{CODE_LIMIT, OLD_TEXT_SIZE, TEXT_SIZE};
 use inputs::lists::{List, Mix};
 use inputs::random::Random;
 
@@ -30,11 +30,13 @@ pub struct Run<'a>(pub &'a ListInput);
 pub struct Build<'a>(pub &'a ListInput);
 pub struct Listing<'a>(pub &'a ListInput);
 
-pub const KINDS: [Kind<ListInput>; 16] = [
-    ("accepted", 7_028, accepted),
+pub const KINDS: [Kind<ListInput>; 18] = [
+    ("accepted", 5_228, accepted),
     ("short bytes", 1_500, short),
     ("no row", 1_200, no_row),
     ("reserved field", 1_500, reserved),
+    ("several reserved fields", 1_500, several_reserved),
+    ("reserved fields, cut", 300, reserved_and_cut),
     ("missing feature", 1_500, feature),
     ("memory operand", 1_500, memory),
     ("control in a register", 2_000, control),
@@ -83,6 +85,7 @@ impl Input for Run<'_> {
         Answer {
             status: ran.status,
             numbers: vec![ran.steps, ran.place],
+            reason: Some(ran.reason),
             digest: Digest::of(&file),
         }
     }
@@ -107,6 +110,7 @@ impl Input for Build<'_> {
         Answer {
             status: built.status,
             numbers: vec![built.place],
+            reason: Some(built.reason),
             digest: Digest::of(&map),
         }
     }
@@ -124,6 +128,7 @@ impl Input for Listing<'_> {
         Answer {
             status: listed.status,
             numbers: vec![listed.written],
+            reason: None,
             digest: Digest::of(&text),
         }
     }
@@ -182,6 +187,20 @@ fn reserved(maker: &mut Maker) -> ListInput {
     with_fault(Fault::Reserved, maker)
 }
 
+fn several_reserved(maker: &mut Maker) -> ListInput {
+    with_fault(Fault::SeveralReserved, maker)
+}
+
+/// A list that ends inside an instruction with wrong fields.
+fn reserved_and_cut(maker: &mut Maker) -> ListInput {
+    let features = features(&mut maker.random);
+    let mut code = list(features, &mut maker.random).code;
+    let mut bad = maker.fault(Fault::SeveralReserved);
+    maker.cut(&mut bad);
+    code.extend(bad);
+    ListInput::new(code, features, maker)
+}
+
 fn feature(maker: &mut Maker) -> ListInput {
     with_fault(Fault::Feature, maker)
 }
@@ -236,7 +255,8 @@ fn wrong_sizes(maker: &mut Maker) -> ListInput {
 
 fn with_wrong_sizes(input: ListInput, maker: &mut Maker) -> ListInput {
     let below = maker.random.below(TEXT_SIZE);
-    let text = maker.random.pick(&[0, TEXT_SIZE - 1, below]);
+    let old = maker.random.pick(&[OLD_TEXT_SIZE - 1, OLD_TEXT_SIZE]);
+    let text = maker.random.pick(&[0, TEXT_SIZE - 1, old, below]);
     ListInput {
         file: maker.wrong_file(),
         map: maker.wrong_file(),

@@ -1,6 +1,6 @@
 //! The command `vectors`: writes the stored vectors again, or compares them.
 
-use inputs::tally::Table;
+use inputs::tally::{Reasons, Table};
 use std::env;
 use std::process::ExitCode;
 use vectors::layout::INPUTS;
@@ -69,5 +69,11 @@ fn generate() -> Vectors {
         table.finish(INPUTS as u64);
         println!();
     }
+    Reasons::print_head("reasons");
+    let with_reasons = vectors.sections.iter().filter(|s| s.reasons.sum() > 0);
+    for section in with_reasons {
+        section.reasons.print(section.name);
+    }
+    println!();
     vectors
 }

@@ -62,7 +62,8 @@ impl Maker {
 
     /// An encoding with a fault that all features together can have; else no bytes.
     pub fn fault(&mut self, fault: Fault) -> Vec<u8> {
-        fault.encode(ALL, &mut self.random).unwrap_or_default()
+        let bad = fault.encode(ALL, &mut self.random);
+        bad.map_or_else(Vec::new, |bad| bad.code)
     }
 
     pub fn behind_prefix(&mut self) -> Vec<u8> {

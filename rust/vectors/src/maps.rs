@@ -55,6 +55,7 @@ impl Input for Apply {
         Answer {
             status,
             numbers: vec![],
+            reason: None,
             digest: Digest::of(&file),
         }
     }
@@ -73,6 +74,7 @@ impl Input for Compose {
         Answer {
             status,
             numbers: vec![],
+            reason: None,
             digest: Digest::of(&out),
         }
     }

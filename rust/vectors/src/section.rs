@@ -4,20 +4,23 @@ use crate::digest::Digest;
 use crate::layout::Record;
 use crate::maker::Maker;
 use crate::pools::Pools;
-use inputs::tally::Counts;
+use inputs::tally::{Counts, Reasons};
 use std::collections::HashSet;
 
 /// What an entry point answers: the status, other numbers, and the digest of what it may write.
 pub struct Answer {
     pub status: u32,
     pub numbers: Vec<u64>,
+    /// The last of the numbers, if the entry point gives it.
+    pub reason: Option<u32>,
     pub digest: Digest,
 }
 
 impl Answer {
     fn line(&self) -> String {
         let mut line = format!("{:x} ", self.status);
-        for number in &self.numbers {
+        let reason = self.reason.map(u64::from);
+        for number in self.numbers.iter().copied().chain(reason) {
             line += &format!("{number:x} ");
         }
         line + &format!("{}\n", self.digest)
@@ -62,6 +65,8 @@ pub struct Section {
     /// What it can answer.
     pub statuses: &'static [u32],
     pub kinds: Vec<(&'static str, Counts)>,
+    /// None were counted if the entry point gives no reason.
+    pub reasons: Reasons,
     pub data: Vec<u8>,
     /// A line for each input.
     pub results: String,
@@ -73,6 +78,7 @@ impl Section {
             name,
             statuses,
             kinds: Vec::new(),
+            reasons: Reasons::default(),
             data: Vec::new(),
             results: String::new(),
         }
@@ -89,6 +95,9 @@ impl Section {
         for input in inputs {
             let answer = input.answer(pools);
             counts.add(answer.status);
+            if let Some(reason) = answer.reason {
+                self.reasons.add(answer.status, reason);
+            }
             self.data.extend(input.record().0);
             self.results += &answer.line();
         }

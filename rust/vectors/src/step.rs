@@ -19,8 +19,8 @@ pub struct Step {
     pub code: Vec<u8>,
 }
 
-pub const KINDS: [Kind<Step>; 17] = [
-    ("accepted", 8_500, accepted),
+pub const KINDS: [Kind<Step>; 19] = [
+    ("accepted", 7_600, accepted),
     ("few registers", 2_000, few_registers),
     ("bytes behind", 800, bytes_behind),
     ("length of memory", 1_800, memory_length),
@@ -32,7 +32,9 @@ pub const KINDS: [Kind<Step>; 17] = [
     ("one byte replaced", 500, replaced),
     ("cut", 500, cut),
     ("no row", 200, no_row),
-    ("reserved field", 400, reserved),
+    ("reserved field", 600, reserved),
+    ("several reserved fields", 500, several_reserved),
+    ("reserved fields, cut", 200, reserved_and_cut),
     ("several faults", 288, several_faults),
     ("15 bytes from a prefix", 300, behind_prefix),
     ("any bytes", 100, any_bytes),
@@ -58,6 +60,7 @@ impl Input for Step {
         Answer {
             status: stepped.status,
             numbers: vec![stepped.length.into()],
+            reason: Some(stepped.reason),
             digest: Digest::of(&file),
         }
     }
@@ -154,6 +157,17 @@ fn no_row(maker: &mut Maker) -> Step {
 
 fn reserved(maker: &mut Maker) -> Step {
     fault(Fault::Reserved, maker)
+}
+
+fn several_reserved(maker: &mut Maker) -> Step {
+    fault(Fault::SeveralReserved, maker)
+}
+
+/// Short bytes, or wrong fixed bits before that shows.
+fn reserved_and_cut(maker: &mut Maker) -> Step {
+    let mut input = several_reserved(maker);
+    maker.cut(&mut input.code);
+    input
 }
 
 fn fault(fault: Fault, maker: &mut Maker) -> Step {

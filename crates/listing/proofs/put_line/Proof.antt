@@ -1,11 +1,12 @@
 use Prim.Native.Nat.{ℕ, _+_, _≤_}
+use mathlib.Core.Path.{_∙_, ap}
 use mathlib.Core.List.{List, _++_}
 use borrow.Author.Needs.{needs}
 use lib.ListN.{length}
 use Rattle.listing.specs.Text.{ascii, decimal}
-use Rattle.listing.specs.Listing.{field, nameText, lineText}
+use Rattle.listing.specs.Listing.{field, nameText, reasonText, lineText}
 use Rattle.listing.specs.declared.Line.{Line}
-use Rattle.listing.proofs.Puts.{Put, and-then, first-fits, second-fits}
+use Rattle.listing.proofs.Puts.{Put, length-put, and-then, first-fits, second-fits}
 use Rattle.listing.proofs.put_line.Statement.{statement}
 use Rattle.listing.proofs.put_line.Tie as tie
 
@@ -26,13 +27,19 @@ module _ (l : Line) where
   abbrev to-status : List ℕ
   to-status = to-bits ++ decimal (l .status)
 
+  abbrev to-reason : List ℕ
+  to-reason = to-status ++ reasonText (l .reason)
+
   -- where the line fits, each of them does
   module _ (at n : ℕ) (h : at + length (lineText l) ≤ n) where
-    all-fits : at + length (to-status ++ ascii "\n") ≤ n
+    all-fits : at + length (to-reason ++ ascii "\n") ≤ n
     all-fits = unfold lineText in h
 
+    reason-fits : at + length to-reason ≤ n
+    reason-fits = first-fits at n to-reason (ascii "\n") all-fits
+
     status-fits : at + length to-status ≤ n
-    status-fits = first-fits at n to-status (ascii "\n") all-fits
+    status-fits = first-fits at n to-status (reasonText (l .reason)) reason-fits
 
     bits-fits : at + length to-bits ≤ n
     bits-fits = first-fits at n to-bits (decimal (l .status)) status-fits
@@ -65,6 +72,9 @@ third c = c .before .before .before .before .before
 abbrev fourth : tie.After-put-number → tie.After-put-field3
 fourth c = c .before .before .before .before .before
 
+abbrev fifth : tie.After-put-reason → tie.After-put-number
+fifth c = c .before .before .before .before
+
 after-length : (c : tie.After-put-field2) → Upto (start (first c)) to-length (c .put-field2 .result) (c .put-field2 .last .0)
 after-length c = and-then _ _ _ _ _ (first c .put-field .ensures) _ _ _ (c .put-field2 .ensures)
 
@@ -76,6 +86,9 @@ after-bits c = and-then _ _ _ _ _ (after-name (third c)) _ _ _ (c .put-field3 .e
 
 after-status : (c : tie.After-put-number) → Upto (start (first (second (third (fourth c))))) to-status (c .put-number .result) (c .put-number .last .0)
 after-status c = and-then _ _ _ _ _ (after-bits (fourth c)) _ _ _ (c .put-number .ensures)
+
+after-reason : (c : tie.After-put-reason) → Upto (start (first (second (third (fourth (fifth c)))))) to-reason (c .put-reason .result) (c .put-reason .last .0)
+after-reason c = and-then _ _ _ _ _ (after-status (fifth c)) _ _ _ (c .put-reason .ensures)
 
 put-field-requires-2 : tie.Need-put-field-requires-2
 put-field-requires-2 c κs =
@@ -100,15 +113,21 @@ put-number-requires c κs =
     let s = start (first (second (third p))) in
     second-fits _ _ _ _ _ (after-bits p) _ (status-fits (s .args .line) _ _ (s .pre))
 
+put-reason-requires : tie.Need-put-reason-requires
+put-reason-requires c κs =
+    let p = c .before .before .before in
+    let s = start (first (second (third (fourth p)))) in
+    second-fits _ _ _ _ _ (after-status p) _ (reason-fits (s .args .line) _ _ (s .pre))
+
 put-requires : tie.Need-put-requires
 put-requires c κs =
     let p = c .before .before .before in
-    let s = start (first (second (third (fourth p)))) in
-    second-fits _ _ _ _ _ (after-status p) (ascii "\n") (all-fits (s .args .line) _ _ (s .pre))
+    let s = start (first (second (third (fourth (fifth p))))) in
+    second-fits _ _ _ _ _ (after-reason p) (ascii "\n") (all-fits (s .args .line) _ _ (s .pre))
 
 returns : tie.Need-returns
 unfolding lineText
-returns c = let p = c .before .before in and-then _ _ _ _ _ (after-status (p .before .before .before .before)) _ _ _ (p .put .ensures)
+returns c = let p = c .before .before in and-then _ _ _ _ _ (after-reason (p .before .before .before .before)) _ _ _ (p .put .ensures)
 
 pub put-line-spec : {M : Type 1} → statement M
 put-line-spec =
@@ -121,6 +140,7 @@ put-line-spec =
     put-field-requires-3
     (λ c. search needs)
     put-number-requires
+    put-reason-requires
     put-requires
-    (λ c. search needs)
+    (λ c. ap length (returns c .1) ∙ length-put _ _ _)
     returns)

@@ -8,4 +8,5 @@ refused-spec =
     tie.close
     (tie.spec
     (λ c κs. search needs)
+    (λ c κs. search needs)
     (λ c. search (needs, refused-is) depth 12))

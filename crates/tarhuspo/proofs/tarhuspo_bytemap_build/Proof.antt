@@ -2,12 +2,12 @@ use Prim.Native.Nat.{ℕ}
 use borrow.Author.Needs.{needs}
 use Rattle.bytemap.specs.declared.Built.{Built}
 use Rattle.tarhuspo.specs.declared.TarhuspoBuilt.{TarhuspoBuilt}
-use Rattle.tarhuspo.proofs.Lists.{gives}
+use Rattle.tarhuspo.proofs.Lists.{gives-reason}
 use Rattle.tarhuspo.proofs.tarhuspo_bytemap_build.Statement.{statement}
 use Rattle.tarhuspo.proofs.tarhuspo_bytemap_build.Tie as tie
 
-abbrev made : Built → ℕ → TarhuspoBuilt
-made r s = record { place = r .place; status = s }
+abbrev made : Built → ℕ → ℕ → TarhuspoBuilt
+made r s w = record { place = r .place; status = s; reason = w }
 
 pub tarhuspo-bytemap-build-spec : {M : Type 1} → statement M
 tarhuspo-bytemap-build-spec =
@@ -15,5 +15,6 @@ tarhuspo-bytemap-build-spec =
     (tie.spec
     (λ c κs. search needs)
     (λ c κs. search needs)
+    (λ c κs. search needs)
     (λ c. search needs)
-    (λ c. search (needs, gives (λ (r : Built). r .answer) made) depth 12))
+    (λ c. search (needs, gives-reason (λ (r : Built). r .answer) made) depth 12))

@@ -12,6 +12,7 @@ tarhuspo-step-spec =
     (λ c. search (needs, fits-step, steps, refuses) depth 12)
     (λ c. search needs)
     (λ c κs. search needs)
+    (λ c κs. search needs)
     (λ c. search needs)
     (λ c. search (needs, fits-step, steps, refuses) depth 12)
     (λ c. search needs)

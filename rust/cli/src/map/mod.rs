@@ -61,7 +61,7 @@ fn build(words: &[OsString]) -> Result<Answer, Failure> {
     let setting = Setting::given(&options, &mut inputs)?;
     note_masks(&options, [&code].into_iter(), setting.features);
     let map = built(&code, &setting)
-        .map_err(|built| Failure::Refused(refusal_at(built.place, built.status)))?;
+        .map_err(|built| Failure::Refused(refusal_at(built.place, built.status, built.reason)))?;
     Ok(output::bytes(&options, "maps", as_bytes(&map))?)
 }
 

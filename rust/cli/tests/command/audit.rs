@@ -26,7 +26,7 @@ fn report_states_sizes_with_their_units() {
         " refused with #UD\n",
         "\ncompared after each: 2048 register bytes (32 registers of 64 bytes), ",
         " 8 opmasks of 64 bits,\n",
-        " status, length in bytes, the memory operand, the guard bytes ",
+        " status, reason, length in bytes, the memory operand, the guard bytes ",
         "\nno difference\n",
     ];
     for line in lines {

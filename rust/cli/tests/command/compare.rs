@@ -1,6 +1,7 @@
 //! `tarhuspo compare`.
 
 use crate::tools::{assert_bad_usage, printed, run, run_with_input, Folder};
+use crate::tools::{WRONG_B, WRONG_VVVV};
 
 /// vpshufd xmm1, xmm2, 0xe4: a copy of the lowest lane.
 const COPY: &str = "hex:C5F970CAE4";
@@ -102,6 +103,25 @@ fn the_first_refusal_of_the_first_list_ends_it() {
     let (status, out, _) = run(&["compare", COPY, COPY, "--features", "0"]);
     assert_eq!(status, Some(1));
     assert_eq!(out, format!("list 1 ('{COPY}'): {}\n", refusal(0, 5)));
+}
+
+/// vpshufd with a wrong vvvv as the second list, and vpshufb with b as the first.
+#[test]
+fn a_wrong_field_of_a_list_is_named() {
+    let (status, out, err) = run(&["compare", COPY, "hex:C5F970CAE4 C5E970CA1B"]);
+    assert_eq!((status, err.as_str()), (Some(1), ""));
+    let list = "list 2 ('hex:C5F970CAE4 C5E970CA1B')";
+    assert_eq!(
+        out,
+        format!("{list}: refused at place 5, status {WRONG_VVVV}\n")
+    );
+    let (status, out, err) = run(&["compare", "hex:62F26D5800CB", COPY]);
+    assert_eq!((status, err.as_str()), (Some(1), ""));
+    let list = "list 1 ('hex:62F26D5800CB')";
+    assert_eq!(
+        out,
+        format!("{list}: refused at place 0, status {WRONG_B}\n")
+    );
 }
 
 #[test]

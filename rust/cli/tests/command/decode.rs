@@ -1,6 +1,6 @@
 //! `tarhuspo decode`.
 
-use crate::tools::{assert_bad_usage, printed, run};
+use crate::tools::{assert_bad_usage, printed, run, WRONG_B, WRONG_VVVV, WRONG_WIDTH};
 
 /// The first line for bytes that are accepted.
 fn instruction(bytes: &str) -> String {
@@ -10,12 +10,32 @@ fn instruction(bytes: &str) -> String {
 
 /// The refusal is what was asked for, and goes to standard output.
 fn assert_refused(arguments: &[&str], status: u32) {
-    let answer = format!("refused, status {status}: {}\n", tarhuspo::describe(status));
+    let words = format!("{status}: {}", tarhuspo::describe(status));
+    assert_refused_with(arguments, &words);
+}
+
+fn assert_refused_with(arguments: &[&str], words: &str) {
+    let answer = format!("refused, status {words}\n");
     assert_eq!(
         run(arguments),
         (Some(1), answer, String::new()),
         "{arguments:?}"
     );
+}
+
+/// What stands behind `status` for the six wrong fields, in the order of their numbers.
+const WRONG: [&str; 6] = [
+    "4 (#UD), reason 1: The EVEX fixed bits must be 0 (bits 3 and 2 of the second byte) and 1 \
+     (bit 2 of the third).",
+    "4 (#UD), reason 2: W must be 0 in the VEX form of this instruction.",
+    WRONG_WIDTH,
+    WRONG_VVVV,
+    WRONG_B,
+    "4 (#UD), reason 6: z must be 0 without an opmask (aaa 000b).",
+];
+
+fn assert_reason(bytes: &str, reason: usize) {
+    assert_refused_with(&["decode", bytes], WRONG[reason - 1]);
 }
 
 #[test]
@@ -177,7 +197,6 @@ fn refusals_have_number_and_sentence() {
     assert_refused(&["decode", "C5 F9 70 CA"], 2);
     assert_refused(&["decode", ""], 2);
     assert_refused(&["decode", "90"], 3);
-    assert_refused(&["decode", "C5 E9 70 CA 1B"], 4);
     assert_refused(&["decode", "C5 FD 70 CA 1B", "--features", "avx"], 5);
     assert_refused(&["decode", "C5 F9 70 CA 1B", "--features", "0"], 5);
 }
@@ -200,14 +219,79 @@ fn features_of_a_byte_form() {
 #[test]
 fn refusals_of_the_lane_permutes() {
     // VPSHUFB with b 1, and VUNPCKLPD under EVEX with W 0.
-    assert_refused(&["decode", "62 F2 6D 58 00 08"], 4);
+    assert_reason("62 F2 6D 58 00 08", 5);
     assert_refused(&["decode", "62 F1 6D 48 14 CB"], 3);
     // VPERMILPS with an immediate: vvvv, then VEX W.
-    assert_refused(&["decode", "C4 E3 69 04 CA 1B"], 4);
-    assert_refused(&["decode", "C4 E3 F9 04 CA 1B"], 4);
+    assert_reason("C4 E3 69 04 CA 1B", 4);
+    assert_reason("C4 E3 F9 04 CA 1B", 2);
     // vpshufb ymm1, ymm2, ymm3 needs AVX2 and not AVX.
     assert_refused(&["decode", "C4 E2 6D 00 CB", "--features", "61"], 5);
     assert!(printed(&["decode", "C4 E2 6D 00 CB", "--features", "avx2"]).starts_with("vpshufb "));
+}
+
+#[test]
+fn each_wrong_field_is_named() {
+    let fields = [
+        // Bits 2 and 3 of the second byte, and bit 2 of the third.
+        (
+            1,
+            &[
+                "62F57D4870CA1B",
+                "62F97D4870CA1B",
+                "62FD7D4870CA1B",
+                "62F1794870CA1B",
+            ][..],
+        ),
+        // VPERMILPD, VPERMILPS and VPERM2F128 with W 1.
+        (
+            2,
+            &["C4E3FD05CA05", "C4E2E90DCB", "C4E2E90CCB", "C4E3ED06CB31"],
+        ),
+        // L'L 11b, and VPERM2F128 with L 0.
+        (3, &["62F17D6870CA1B", "62F26D688DCB", "C4E36906CB31"]),
+        // vvvv under VEX and EVEX, and V'.
+        (4, &["C5E970CA1B", "62F1754870CA1B", "62F17D4070CA1B"]),
+        // With a register, and on the byte permutes with either operand.
+        (
+            5,
+            &[
+                "62F17D5870CA1B",
+                "62F26D588D08",
+                "62F26D588DCB",
+                "62F26D5800CB",
+            ],
+        ),
+        (6, &["62F17DC870CA1B", "62F26DC88DCB"]),
+    ];
+    for (reason, codes) in fields {
+        for code in codes {
+            assert_reason(code, reason);
+        }
+    }
+}
+
+/// One field after the other put right, until the instruction is accepted.
+#[test]
+fn the_first_of_several_wrong_fields_is_named() {
+    assert_reason("62 F5 75 F8 70 CA 1B", 1);
+    assert_reason("62 F1 75 F8 70 CA 1B", 3);
+    assert_reason("62 F1 75 D8 70 CA 1B", 4);
+    assert_reason("62 F1 7D D8 70 CA 1B", 5);
+    assert_reason("62 F1 7D C8 70 CA 1B", 6);
+    assert_eq!(
+        instruction("62 F1 7D C9 70 CA 1B"),
+        "vpshufd zmm1{k1}{z}, zmm2, 0x1b"
+    );
+    // VPERM2F128 with W 1 and L 0.
+    assert_reason("C4 E3 E9 06 CB 31", 2);
+    assert_reason("C4 E3 69 06 CB 31", 3);
+    assert_eq!(
+        instruction("C4 E3 6D 06 CB 31"),
+        "vperm2f128 ymm1, ymm2, ymm3, 0x31"
+    );
+    // A field comes before a feature that is missing.
+    let arguments = ["decode", "C4 E3 E9 05 CA 05", "--features", "0"];
+    assert_refused_with(&arguments, WRONG[1]);
 }
 
 #[test]

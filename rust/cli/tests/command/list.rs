@@ -1,6 +1,7 @@
 //! `tarhuspo list`.
 
 use crate::tools::{assert_bad_usage, printed, repository, run, run_with_input, Folder};
+use crate::tools::{WRONG_B, WRONG_VVVV};
 use std::fs;
 
 const EXAMPLE: [u8; 8] = [0xC5, 0xF9, 0x70, 0xCA, 0x1B, 0xC5, 0xF9, 0x70];
@@ -66,12 +67,41 @@ fn lane_permutes_are_listed() {
         "19\t6\tVUNPCKHPD\t512\t0\n",
         "25\t6\tVPSHUFB\t512\t0\n",
         "31\t6\tVPSHUFB\t256\t0\n",
-        "37\t0\t-\t0\t4\n",
+        "37\t0\t-\t0\t4:5\n",
     ];
-    assert_eq!(
-        printed(&["list", code]),
-        HEADINGS.to_string() + &lines.concat()
-    );
+    let (status, out, note) = run(&["list", code]);
+    assert_eq!(status, Some(0));
+    assert_eq!(out, HEADINGS.to_string() + &lines.concat());
+    let expected = format!("tarhuspo: note: refused at place 37, status {WRONG_B}\n");
+    assert_eq!(note, expected);
+}
+
+/// The digit of each reason, and a note for each.
+#[test]
+fn reasons_are_listed_and_noted() {
+    let fields = [
+        "62F57D4870CA1B",
+        "C4E3FD05CA05",
+        "C4E36906CB31",
+        "C5E970CA1B",
+        "62F26D588D08",
+        "62F17DC870CA1B",
+    ];
+    for (reason, code) in (1..).zip(fields) {
+        let (status, out, note) = run(&["list", &format!("hex:C5E814CB {code}")]);
+        assert_eq!(status, Some(0));
+        assert!(
+            out.ends_with(&format!("\n4\t0\t-\t0\t4:{reason}\n")),
+            "{out}"
+        );
+        let start =
+            format!("tarhuspo: note: refused at place 4, status 4 (#UD), reason {reason}: ");
+        assert!(note.starts_with(&start), "{note}");
+        assert_eq!(note.lines().count(), 1, "{note}");
+    }
+    let (_, _, note) = run(&["list", "hex:C5E970CA1B"]);
+    let expected = format!("tarhuspo: note: refused at place 0, status {WRONG_VVVV}\n");
+    assert_eq!(note, expected);
 }
 
 #[test]

@@ -1,7 +1,7 @@
 //! `tarhuspo map`: building, applying, composing, showing.
 
-use crate::tools::{assert_bad_usage, assert_refused, at_terminal, map_with, printed};
-use crate::tools::{printed_bytes, registers, run_bytes, Folder};
+use crate::tools::{assert_bad_usage, assert_refused, assert_refused_with, at_terminal};
+use crate::tools::{map_with, printed, printed_bytes, registers, run_bytes, Folder, WRONG_WIDTH};
 
 /// vpshufd xmm1, xmm2, 0x1b
 const SHUFFLE: &str = "hex:C5F970CA1B";
@@ -63,7 +63,6 @@ fn refused_lists_write_nothing() {
     for (code, place, status) in [
         ("hex:C5F970CA1B C5F970", 5, 2),
         ("hex:90", 0, 3),
-        ("hex:C5E970CA1B", 0, 4),
         ("hex:C5E814CB C5F970081B", 4, 7),
         ("hex:C4E2690DCB", 0, 7),
         // vpermilps and vpshufb with a register as control, behind a step that has a map
@@ -81,6 +80,19 @@ fn refused_lists_write_nothing() {
     assert_refused(&["map", "build", &long], "refused at place 0", 8);
     assert_eq!(folder.read("kept.map"), b"as before");
     assert_eq!(folder.names(), ["kept.map", "long.bin"]);
+}
+
+/// vperm2f128 with L 0, behind a step that has a map.
+#[test]
+fn a_wrong_field_of_a_list_is_named() {
+    let arguments = ["map", "build", "hex:C5E814CB C4E36906CB31"];
+    let refusal = format!("refused at place 4, status {WRONG_WIDTH}");
+    assert_refused_with(&arguments, &refusal);
+    let folder = Folder::new("map_field");
+    let out = folder.write("kept.map", "as before");
+    let arguments = [&arguments[..], &["--out", &out]].concat();
+    assert_refused_with(&arguments, &refusal);
+    assert_eq!(folder.read("kept.map"), b"as before");
 }
 
 #[test]

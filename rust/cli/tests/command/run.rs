@@ -1,6 +1,7 @@
 //! `tarhuspo run`.
 
 use crate::tools::{assert_bad_usage, printed, registers, run, run_with_input, Folder};
+use crate::tools::{WRONG_VVVV, WRONG_WIDTH};
 
 /// vunpcklps xmm1, xmm2, xmm3; vpshufd xmm17, xmm26, 0xe4
 const LIST: &str = "hex:C5E814CB 62817D0870CAE4";
@@ -233,6 +234,27 @@ fn a_refused_run_keeps_its_steps_when_asked_to() {
         folder.read("after.bin"),
         library_file(&LIST_BYTES, [0; 8], 63)
     );
+}
+
+/// A reserved field that is wrong, behind a step and at once.
+#[test]
+fn a_wrong_field_is_named() {
+    let folder = Folder::new("run_field");
+    let before = folder.write("before.bin", registers());
+    for (code, steps, place, words, changed) in [
+        (
+            "hex:C5E814CB C5E970CA1B",
+            1,
+            "4 of 9",
+            WRONG_VVVV,
+            "zmm1 (bytes 0..63)",
+        ),
+        ("hex:C4E36906CB31", 0, "0 of 6", WRONG_WIDTH, "none"),
+    ] {
+        let (status, out, err) = run(&["run", code, "--registers", &before]);
+        assert_eq!((status, err.as_str()), (Some(1), ""), "{code}");
+        assert_eq!(out, report(steps, place, words, changed));
+    }
 }
 
 /// With no step done, the file is the start, whatever the run is refused for.

@@ -75,13 +75,33 @@ pub fn assert_bad_usage(arguments: &[&str], message: &str) {
 /// Exit status 1, nothing printed, and the refusal on standard error.
 pub fn assert_refused(arguments: &[&str], refusal: &str, status: u32) {
     let sentence = tarhuspo::describe(status);
-    let line = format!("tarhuspo: {refusal}, status {status}: {sentence}\n");
+    assert_refused_with(
+        arguments,
+        &format!("{refusal}, status {status}: {sentence}"),
+    );
+}
+
+/// The same with the refusal's whole line, as status 4 has it.
+pub fn assert_refused_with(arguments: &[&str], refusal: &str) {
+    let line = format!("tarhuspo: {refusal}\n");
     assert_eq!(
         run(arguments),
         (Some(1), String::new(), line),
         "{arguments:?}"
     );
 }
+
+/// What stands behind `status` for a wrong vvvv.
+pub const WRONG_VVVV: &str =
+    "4 (#UD), reason 4: vvvv must be 1111b, and under EVEX V' 1: this form has no first source.";
+/// The same for a width that VPERM2F128 does not have.
+pub const WRONG_WIDTH: &str =
+    "4 (#UD), reason 3: The width must be one that exists: EVEX has none \
+                               for L'L 11b, and VPERM2F128 has L 1 alone.";
+/// The same for b on VPSHUFB.
+pub const WRONG_B: &str =
+    "4 (#UD), reason 5: b must be 0 with a register as third operand, and on \
+                           VPERMB and VPSHUFB, which have no broadcast.";
 
 /// Exit status and all output of the command at a terminal, which `script` provides. Nothing if the
 /// system has no such program.

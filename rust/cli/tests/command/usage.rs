@@ -37,6 +37,25 @@ fn help_names_every_instruction_and_feature() {
     }
 }
 
+/// The reasons stand where refusals are explained, and the other commands say where that is.
+#[test]
+fn help_has_the_reasons() {
+    let fields = ["EVEX fixed bits", "W", "width", "vvvv", "b", "z"];
+    for command in ["decode", "list"] {
+        let help = printed(&["help", command]);
+        for (reason, field) in (1..).zip(fields) {
+            let line = format!("\n  {reason}  {field}: ");
+            assert_eq!(help.matches(&line).count(), 1, "{line} in {command}");
+        }
+    }
+    for command in ["run", "map", "compare"] {
+        let help = printed(&["help", command]);
+        let words: Vec<_> = help.split_whitespace().collect();
+        let pointer = "reason: tarhuspo help decode lists them.";
+        assert!(words.join(" ").contains(pointer), "{command}");
+    }
+}
+
 #[test]
 fn version_is_the_librarys() {
     let (major, minor) = (tarhuspo::version::MAJOR, tarhuspo::version::MINOR);

@@ -43,10 +43,25 @@ fn for_lists(
     }
 }
 
+/// Compares a list that does not answer 4.
 fn check_expected(comparison: &mut Comparison, case: &Case, place: usize, status: u32) {
-    let place = place as u64;
+    check_built(comparison, case, place, (status, 0));
+}
+
+/// Compares a list with a known status and reason.
+fn check_built(
+    comparison: &mut Comparison,
+    case: &Case,
+    place: usize,
+    (status, reason): (u32, u32),
+) {
+    let expected = Built {
+        place: place as u64,
+        status,
+        reason,
+    };
     let built = comparison.check(case);
-    assert_eq!(built, Built { place, status }, "the generator made\n{case}");
+    assert_eq!(built, expected, "the generator made\n{case}");
 }
 
 fn accepted(comparison: &mut Comparison) {
@@ -86,7 +101,8 @@ fn check_fault(
     case.behind = random.bytes(8);
     for position in 0..=list.count() {
         case.code = fault.insert(list, position, &bad);
-        check_expected(comparison, &case, list.end_of(position), status);
+        let answer = (status, bad.reason);
+        check_built(comparison, &case, list.end_of(position), answer);
     }
 }
 

@@ -10,7 +10,7 @@ mod maps;
 use compare::form::Form;
 use compare::instructions::Instructions;
 use compare::mapping;
-use compare::tally::Table;
+use compare::tally::{Reasons, Table};
 
 const LEAST_LISTS: u64 = 50_000;
 const LEAST_MAPS: u64 = 5_000;
@@ -30,17 +30,20 @@ fn library_agrees_with_reference() {
 fn compare_builds() {
     let mut table = Table::new("compared builds", &[0, 1, 2, 3, 4, 5, 7, 8]);
     let mut lists = 0;
+    let mut reasons = Reasons::default();
     let mut instructions = Instructions::default();
     for (name, compare_all) in building::KINDS {
         let mut comparison = compare::building::Comparison::default();
         compare_all(&mut comparison);
         table.line(name, comparison.counts);
         lists += comparison.lists;
+        reasons.merge(&comparison.reasons);
         instructions.merge(&comparison.instructions);
     }
     table.finish(LEAST_LISTS);
     println!("{lists} lists");
     assert!(lists >= LEAST_LISTS, "fewer than {LEAST_LISTS} lists");
+    reasons.finish("builds by reason");
     let is_mappable = |form: Form| !form.shape.memory && !form.has_register_control();
     instructions.print("built steps by instruction", is_mappable);
 }

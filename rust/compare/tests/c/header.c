@@ -9,7 +9,7 @@
 #define FIELD(type, name, at) \
     _Static_assert(offsetof(type, name) == (at), "offset of " #name " in " #type)
 
-SIZE(tarhuspo_decoded, 56);
+SIZE(tarhuspo_decoded, 60);
 FIELD(tarhuspo_decoded, status, 0);
 FIELD(tarhuspo_decoded, length, 4);
 FIELD(tarhuspo_decoded, memory, 8);
@@ -24,19 +24,23 @@ FIELD(tarhuspo_decoded, zeroing, 40);
 FIELD(tarhuspo_decoded, broadcast, 44);
 FIELD(tarhuspo_decoded, has_immediate, 48);
 FIELD(tarhuspo_decoded, immediate, 52);
+FIELD(tarhuspo_decoded, reason, 56);
 
-SIZE(tarhuspo_stepped, 8);
+SIZE(tarhuspo_stepped, 12);
 FIELD(tarhuspo_stepped, status, 0);
 FIELD(tarhuspo_stepped, length, 4);
+FIELD(tarhuspo_stepped, reason, 8);
 
 SIZE(tarhuspo_ran, 24);
 FIELD(tarhuspo_ran, steps, 0);
 FIELD(tarhuspo_ran, place, 8);
 FIELD(tarhuspo_ran, status, 16);
+FIELD(tarhuspo_ran, reason, 20);
 
 SIZE(tarhuspo_built, 16);
 FIELD(tarhuspo_built, place, 0);
 FIELD(tarhuspo_built, status, 8);
+FIELD(tarhuspo_built, reason, 12);
 
 SIZE(tarhuspo_listed, 16);
 FIELD(tarhuspo_listed, written, 0);
@@ -44,9 +48,9 @@ FIELD(tarhuspo_listed, status, 8);
 
 static void print(const char *name, tarhuspo_decoded d)
 {
-    printf("%s: %u %u %u %u %u %u %u %u %u %u %u %u %u %u\n", name, d.status, d.length, d.memory,
-           d.mnemonic, d.bits, d.evex, d.destination, d.first, d.third, d.mask, d.zeroing,
-           d.broadcast, d.has_immediate, d.immediate);
+    printf("%s: %u %u %u %u %u %u %u %u %u %u %u %u %u %u, reason %u\n", name, d.status, d.length,
+           d.memory, d.mnemonic, d.bits, d.evex, d.destination, d.first, d.third, d.mask, d.zeroing,
+           d.broadcast, d.has_immediate, d.immediate, d.reason);
 }
 
 static void decode(void)
@@ -55,6 +59,9 @@ static void decode(void)
     const uint8_t code[] = {0x62, 0xE2, 0xB5, 0xBB, 0x0D, 0x08};
     /* vpshufb zmm1, zmm2, zmm3 */
     const uint8_t vpshufb[] = {0x62, 0xF2, 0x6D, 0x48, 0x00, 0xCB};
+    /* The same with z and no opmask, and with b as well. */
+    const uint8_t z[] = {0x62, 0xF2, 0x6D, 0xC8, 0x00, 0xCB};
+    const uint8_t b_and_z[] = {0x62, 0xF2, 0x6D, 0xD8, 0x00, 0xCB};
 
     print("accepted", tarhuspo_decode(code, sizeof code, 63));
     print("too short", tarhuspo_decode(code, sizeof code - 1, 63));
@@ -62,7 +69,14 @@ static void decode(void)
     print("features", tarhuspo_decode(code, sizeof code, 64));
     print("vpshufb", tarhuspo_decode(vpshufb, sizeof vpshufb, TARHUSPO_AVX512BW));
     print("without avx512bw", tarhuspo_decode(vpshufb, sizeof vpshufb, 63 - TARHUSPO_AVX512BW));
+    print("z", tarhuspo_decode(z, sizeof z, 63));
+    print("b and z", tarhuspo_decode(b_and_z, sizeof b_and_z, 0));
 }
+
+/* vunpcklps xmm1, xmm2, xmm3; vperm2f128 with L 0 */
+static const uint8_t reserved_list[] = {0xC5, 0xE8, 0x14, 0xCB, 0xC4, 0xE3, 0x69, 0x06, 0xCB, 0x31};
+/* vpermilpd with W 1 and vvvv */
+static const uint8_t reserved[] = {0xC4, 0xE3, 0xED, 0x05, 0xCA, 0x05};
 
 static uint8_t file[TARHUSPO_FILE_SIZE];
 static uint64_t masks[TARHUSPO_MASK_COUNT];
@@ -84,6 +98,9 @@ static void step(void)
     s = tarhuspo_step(code, sizeof code, file, sizeof file, masks, TARHUSPO_MASK_COUNT, 63, memory,
                       sizeof memory - 1);
     printf("refused step: %u %u, bytes %u %u\n", s.status, s.length, file[68], file[71]);
+    s = tarhuspo_step(reserved, sizeof reserved, file, sizeof file, masks, TARHUSPO_MASK_COUNT, 63,
+                      memory, sizeof memory);
+    printf("reserved step: %u %u, reason %u\n", s.status, s.length, s.reason);
 }
 
 /* vunpcklps xmm1, xmm2, xmm3; vpshufd xmm1, xmm1, 0x1b; a byte that starts nothing */
@@ -103,6 +120,14 @@ static void run(void)
     r = tarhuspo_run(list, sizeof list, file, sizeof file, masks, TARHUSPO_MASK_COUNT, 63,
                      UINT64_C(0));
     printf("no budget: %" PRIu64 " %" PRIu64 " %u\n", r.steps, r.place, r.status);
+}
+
+static void reserved_run(void)
+{
+    tarhuspo_ran r = tarhuspo_run(reserved_list, sizeof reserved_list, file, sizeof file, masks,
+                                  TARHUSPO_MASK_COUNT, 63, TARHUSPO_MOST_STEPS);
+    printf("reserved run: %" PRIu64 " %" PRIu64 " %u, reason %u\n", r.steps, r.place, r.status,
+           r.reason);
 }
 
 static uint16_t map[TARHUSPO_MAP_SIZE], second[TARHUSPO_MAP_SIZE], both[TARHUSPO_MAP_SIZE];
@@ -127,6 +152,9 @@ static void bytemap(void)
     both[0] = TARHUSPO_MAP_ZERO + 1;
     status = tarhuspo_bytemap_apply(both, TARHUSPO_MAP_SIZE, file, sizeof file);
     printf("refused apply: %u\n", status);
+    b = tarhuspo_bytemap_build(reserved_list, sizeof reserved_list, masks, TARHUSPO_MASK_COUNT, 63,
+                               map, TARHUSPO_MAP_SIZE);
+    printf("reserved build: %" PRIu64 " %u, reason %u\n", b.place, b.status, b.reason);
 }
 
 static uint8_t text[TARHUSPO_TEXT_SIZE];
@@ -139,6 +167,9 @@ static void listing(void)
     l = tarhuspo_listing(list, sizeof list, text, sizeof text);
     printf("listing: %" PRIu64 " %u\n%.*s", l.written, l.status, (int)l.written,
            (const char *)text);
+    l = tarhuspo_listing(reserved_list, sizeof reserved_list, text, sizeof text);
+    printf("reserved listing: %" PRIu64 " %u\n%.*s", l.written, l.status, (int)l.written,
+           (const char *)text);
 }
 
 int main(void)
@@ -147,6 +178,7 @@ int main(void)
     step();
     run();
     bytemap();
+    reserved_run();
     listing();
     return 0;
 }

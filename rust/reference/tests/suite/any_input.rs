@@ -2,9 +2,18 @@
 
 use crate::sample::Sample;
 use crate::support::{Random, ALL};
-use reference::{apply, build, compose, decode, listing, reserved_field, run, step, Decoded};
+use reference::{
+    apply, build, compose, decode, listing, reserved_field, run, step, Decoded, Field,
+};
 
 const SIZES: [usize; 8] = [0, 1, 2_047, 2_048, 2_048, 2_048, 2_049, 4_097];
+
+/// A reason from 1 to 6 comes with status 4, and 0 with every other.
+fn check_reason(status: u32, reason: u32) {
+    let is_number = (1..=6).contains(&reason);
+    assert_eq!(is_number, status == 4, "{status} with {reason}");
+    assert!(is_number || reason == 0, "{status} with {reason}");
+}
 
 /// Bytes that look like instructions now and then: random, or an accepted one with one byte changed.
 fn code(random: &mut Random) -> Vec<u8> {
@@ -53,17 +62,17 @@ fn decoding_and_stepping() {
         let features = features(&mut random);
         let masks = masks(&mut random);
         let decoded = decode(&code, features);
-        assert_eq!(
-            reserved_field(&code, features).is_some(),
-            decoded.status == 4
-        );
+        check_reason(decoded.status, decoded.reason);
+        let field = reserved_field(&code, features);
+        assert_eq!(field.map_or(0, Field::number), decoded.reason);
         assert!(decoded.status <= 5 && decoded.length as usize <= code.len());
         if decoded.status != 0 {
-            let status = decoded.status;
+            let (status, reason) = (decoded.status, decoded.reason);
             assert_eq!(
                 decoded,
                 Decoded {
                     status,
+                    reason,
                     ..Decoded::default()
                 }
             );
@@ -74,6 +83,7 @@ fn decoding_and_stepping() {
         let mut file = start.clone();
         let stepped = step(&code, &mut file, &masks, features, &random.bytes(given));
         assert!(stepped.status <= 6);
+        check_reason(stepped.status, stepped.reason);
         if stepped.status != 0 {
             assert_eq!(stepped.length, 0);
             assert!(file == start);
@@ -92,12 +102,14 @@ fn running_building_and_listing() {
         let mut file = random.bytes(size);
         let ran = run(&code, &mut file, &masks, features, 1_024);
         assert!(ran.place as usize <= code.len() && ran.steps <= ran.place / 4);
+        check_reason(ran.status, ran.reason);
         let start = map(&mut random);
         let mut map = start.clone();
         let built = build(&code, &masks, features, &mut map);
         assert!(built.status <= 8 && built.place as usize <= code.len());
         assert!(built.status == 0 || map == start);
-        let mut text = vec![0; random.pick(&[0, 25_623, 25_624, 25_625])];
+        check_reason(built.status, built.reason);
+        let mut text = vec![0; random.pick(&[0, 25_624, 27_671, 27_672, 27_673])];
         let listed = listing(&code, &mut text);
         assert_eq!(listed.written == 0, listed.status != 0);
     }

@@ -8,7 +8,20 @@ const ZERO: u16 = 2_048;
 const VUNPCKLPS: [u8; 4] = [0xC5, 0xE8, 0x14, 0xCB];
 
 fn built(place: u64, status: u32) -> Built {
-    Built { place, status }
+    Built {
+        place,
+        status,
+        reason: 0,
+    }
+}
+
+/// Answer 4 at a place.
+fn reserved(place: u64, reason: u32) -> Built {
+    Built {
+        place,
+        status: 4,
+        reason,
+    }
 }
 
 fn identity() -> Vec<u16> {
@@ -209,21 +222,37 @@ fn building_refuses_in_order() {
     }
     refused(&long, &OPEN, ALL, built(0, 8));
     map_of(&long[..4_096], &OPEN);
-    // The step's own refusals come before 7: VPERMB m512 cut short, with b, without features.
-    let vpermb = [0x62, 0xF2, 0x6D, 0x48, 0x8D, 0x08];
-    refused(&vpermb[..5], &OPEN, ALL, built(0, 2));
-    refused(&[0x62, 0xF2, 0x6D, 0x58, 0x8D, 0x08], &OPEN, 0, built(0, 4));
-    refused(&vpermb, &OPEN, 15, built(0, 5));
-    refused(&vpermb, &OPEN, 16, built(0, 7));
-    let vpshufb = [0x62, 0xF2, 0x6D, 0x48, 0x00, 0xCB];
-    refused(&vpshufb[..5], &OPEN, ALL, built(0, 2));
-    refused(&[0x62, 0xF2, 0x6D, 0x58, 0x00, 0xCB], &OPEN, 0, built(0, 4));
-    refused(&vpshufb, &OPEN, 31, built(0, 5));
-    refused(&vpshufb, &OPEN, 32, built(0, 7));
     let code = [&VUNPCKLPS[..], &VUNPCKLPS[..3]].concat();
     refused(&code, &OPEN, ALL, built(4, 2));
     let code = [&VUNPCKLPS[..], &[0x90]].concat();
     refused(&code, &OPEN, ALL, built(4, 3));
+    let code = [&VUNPCKLPS[..], &[0xC5, 0xE9, 0x70, 0xCA, 0x1B]].concat();
+    refused(&code, &OPEN, ALL, reserved(4, 4));
+}
+
+/// VPERMB m512 and VPSHUFB, cut short, with b, and without features.
+#[test]
+fn a_steps_own_refusals_come_before_7() {
+    let vpermb = [0x62, 0xF2, 0x6D, 0x48, 0x8D, 0x08];
+    refused(&vpermb[..5], &OPEN, ALL, built(0, 2));
+    refused(
+        &[0x62, 0xF2, 0x6D, 0x58, 0x8D, 0x08],
+        &OPEN,
+        0,
+        reserved(0, 5),
+    );
+    refused(&vpermb, &OPEN, 15, built(0, 5));
+    refused(&vpermb, &OPEN, 16, built(0, 7));
+    let vpshufb = [0x62, 0xF2, 0x6D, 0x48, 0x00, 0xCB];
+    refused(&vpshufb[..5], &OPEN, ALL, built(0, 2));
+    refused(
+        &[0x62, 0xF2, 0x6D, 0x58, 0x00, 0xCB],
+        &OPEN,
+        0,
+        reserved(0, 5),
+    );
+    refused(&vpshufb, &OPEN, 31, built(0, 5));
+    refused(&vpshufb, &OPEN, 32, built(0, 7));
 }
 
 #[test]

@@ -78,14 +78,14 @@ fn vpshufb_has_either_w_and_needs_avx512bw() {
         let code = [0x62, 0xF2, q, 0x48, 0x00, 0xCB];
         assert_eq!(decode(&code, ALL), two_sources_512(10));
         assert_eq!(decode(&code, 32), two_sources_512(10));
-        assert_eq!(decode(&code, 31), refusal(5));
+        assert_eq!(decode(&code, 31), refusal(5, 0));
     }
 }
 
 #[test]
 fn vpshufb_with_broadcast() {
     let code = [0x62, 0xF2, 0x6D, 0x58, 0x00, 0x08];
-    decodes(&code, refusal(4));
+    decodes(&code, refusal(4, 5));
     assert_eq!(reserved_field(&code, ALL), Some(Field::Broadcast));
 }
 
@@ -100,7 +100,7 @@ fn vunpcklpd_has_any_w_under_vex() {
 
 #[test]
 fn vunpcklpd_has_w_1_under_evex() {
-    decodes(&[0x62, 0xF1, 0x6D, 0x48, 0x14, 0xCB], refusal(3));
+    decodes(&[0x62, 0xF1, 0x6D, 0x48, 0x14, 0xCB], refusal(3, 0));
     let code = [0x62, 0xF1, 0xED, 0x48, 0x14, 0xCB];
     decodes(&code, two_sources_512(8));
     let lanes = [0, 2, 4, 6].map(|low| [(2, low), (3, low)]);

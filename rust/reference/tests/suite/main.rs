@@ -1,4 +1,4 @@
-//! Tests of the reference against document 01, request 1 and the manual pages.
+//! Tests of the reference against document 01, requests 1 and 3 and the manual pages.
 
 mod any_input;
 mod bytemaps;
@@ -7,6 +7,7 @@ mod encodings;
 mod lane_permutes;
 mod listings;
 mod manual;
+mod reasons;
 mod refusals;
 mod runs;
 mod sample;

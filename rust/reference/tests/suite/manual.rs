@@ -288,6 +288,7 @@ fn steps_move_what_the_manual_says() {
         let done = Stepped {
             status: 0,
             length: code.len() as u32,
+            reason: 0,
         };
         assert_eq!(stepped, done, "{sample:?}");
         assert!(

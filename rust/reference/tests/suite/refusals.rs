@@ -1,6 +1,6 @@
 //! The refusals of a step, and which comes first.
 
-use crate::support::{varied_file, ALL, OPEN};
+use crate::support::{refusal, varied_file, ALL, OPEN};
 use reference::{decode, reserved_field, step, Field, Stepped};
 
 const VPSHUFD: [u8; 5] = [0xC5, 0xF9, 0x70, 0xCA, 0x1B];
@@ -128,12 +128,9 @@ fn reserved_fields_in_their_order() {
         for features in [0, ALL] {
             assert_eq!(reserved_field(code, features), Some(field), "{code:02X?}");
             assert_eq!(step_status(code, features, &[1]), 4);
-            assert_eq!(decode(code, features).status, 4);
+            assert_eq!(decode(code, features), refusal(4, field.number()));
         }
     }
-    assert!(Field::FixedBits < Field::W && Field::W < Field::Width);
-    assert!(Field::Width < Field::Vvvv && Field::Vvvv < Field::Broadcast);
-    assert!(Field::Broadcast < Field::Zeroing);
 }
 
 #[test]
@@ -196,11 +193,10 @@ fn later_bytes_do_not_count() {
     code.resize(10_000, 0xFF);
     let mut file = varied_file();
     let stepped = step(&code, &mut file, &OPEN, ALL, &[]);
-    assert_eq!(
-        stepped,
-        Stepped {
-            status: 0,
-            length: 5
-        }
-    );
+    let done = Stepped {
+        status: 0,
+        length: 5,
+        reason: 0,
+    };
+    assert_eq!(stepped, done);
 }

@@ -12,6 +12,7 @@ fn ran(steps: u64, place: u64, status: u32) -> Ran {
         steps,
         place,
         status,
+        reason: 0,
     }
 }
 
@@ -47,18 +48,24 @@ fn budgets() {
 fn a_refusal_keeps_the_steps_before_it() {
     let memory_form = [0xC5, 0xF9, 0x70, 0x08, 0x1B];
     let vvvv = [0xC5, 0xE9, 0x70, 0xCA, 0x1B];
-    let cases: [(&[u8], u32); 4] = [
-        (&VPSHUFD[..4], 2),
-        (&[0x90], 3),
-        (&vvvv, 4),
-        (&memory_form, 6),
+    let w_and_l = [0xC4, 0xE3, 0xE9, 0x06, 0xCB, 0x31];
+    let cases: [(&[u8], u32, u32); 5] = [
+        (&VPSHUFD[..4], 2, 0),
+        (&[0x90], 3, 0),
+        (&vvvv, 4, 4),
+        (&w_and_l, 4, 2),
+        (&memory_form, 6, 0),
     ];
-    for (bad, status) in cases {
+    for (bad, status, reason) in cases {
         let code = [&VUNPCKLPS[..], bad].concat();
-        check_run(&code, 2, ran(1, 4, status), &[&VUNPCKLPS]);
+        let refused = |steps, place| Ran {
+            reason,
+            ..ran(steps, place, status)
+        };
+        check_run(&code, 2, refused(1, 4), &[&VUNPCKLPS]);
         check_run(&code, 1, ran(1, 4, 0), &[&VUNPCKLPS]);
         check_run(&code, 0, ran(0, 0, 0), &[]);
-        check_run(bad, 1, ran(0, 0, status), &[]);
+        check_run(bad, 1, refused(0, 0), &[]);
     }
 }
 
@@ -131,7 +138,12 @@ fn a_run_in_two_parts_is_one_run() {
         }
         let second = run(&code[first.place as usize..], &mut parts, &masks, ALL, m);
         let [steps, place] = [first.steps + second.steps, first.place + second.place];
-        assert_eq!(ran(steps, place, second.status), expected);
+        let sum = Ran {
+            steps,
+            place,
+            ..second
+        };
+        assert_eq!(sum, expected);
         assert!(parts == whole);
     }
 }

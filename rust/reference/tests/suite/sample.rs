@@ -258,6 +258,7 @@ impl Sample {
             } else {
                 0
             },
+            reason: 0,
         }
     }
 

@@ -60,6 +60,7 @@ pub fn check_step(call: Call, features: &[u32], start: &[u8], number: usize, exp
     let done = Stepped {
         status: 0,
         length: call.code.len() as u32,
+        reason: 0,
     };
     for &features in features {
         let mut file = start.to_vec();
@@ -69,10 +70,11 @@ pub fn check_step(call: Call, features: &[u32], start: &[u8], number: usize, exp
     }
 }
 
-/// A decoding that refuses.
-pub fn refusal(status: u32) -> Decoded {
+/// A decoding that refuses. The reason is 0 but for status 4.
+pub fn refusal(status: u32, reason: u32) -> Decoded {
     Decoded {
         status,
+        reason,
         ..Decoded::default()
     }
 }

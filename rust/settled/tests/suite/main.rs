@@ -3,5 +3,6 @@
 mod frozen;
 mod reading;
 mod request_1;
+mod request_3;
 mod rules;
 mod settled;

@@ -364,7 +364,8 @@ fn inputs(features: u32, code: &[u8], list: &[u8]) -> Vec<Input> {
             code: list(),
         }),
         Input::Listing(Listing {
-            text: Room::new(vec![7; 26_112], 25_624),
+            // As much as request 3 asks for: its rule alone is for less.
+            text: Room::new(vec![7; 28_160], 27_672),
             code: list(),
         }),
     ]

@@ -75,10 +75,12 @@ fn every_form_is_decoded_and_carried_out() {
 }
 
 /// Kinds of which no input, or hardly one, is an instruction as the table has it.
-const DAMAGED: [&str; 6] = [
+const DAMAGED: [&str; 8] = [
     "cut",
     "no row",
     "reserved field",
+    "several reserved fields",
+    "reserved fields, cut",
     "one bit flipped, cut",
     "15 bytes from a prefix",
     "any bytes",

@@ -9,6 +9,7 @@ decode-spec =
     (λ c κs. search needs)
     (λ c κs. search needs)
     (λ c. search needs)
+    (λ c. search (needs, c .before .before .tarhuspo-decode .ok .1 .1 .1 .1 .1 .1 .1 .1 .1 .1 .1 .1 .1 .1))
     (λ c. search needs)
     (λ c κs. search needs)
-    (λ c. let d = c .before .before .before in rw (c .of-numbers .ensures, d .tarhuspo-decode .ensures, d .before .u32-at .ensures)))
+    (λ c. let d = c .before .before .before .before in rw (c .of-numbers .ensures, d .tarhuspo-decode .ensures, d .before .u32-at .ensures)))

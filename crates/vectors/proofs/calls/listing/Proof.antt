@@ -10,7 +10,7 @@ returns c =
     let t = l .before .before in
     let s = t .before in
     let e = s .before in
-    rw (← e .before .u16-at .ensures, le-ltb 26096 _ (e .if1 .left), ← s .u16-at2 .ensures, ← t .text .ensures)
+    rw (← e .before .u16-at .ensures, le-ltb 28144 _ (e .if1 .left), ← s .u16-at2 .ensures, ← t .text .ensures)
     (calls _ _ _ _ _ (l .tarhuspo-listing .ensures .0) (l .tarhuspo-listing .ensures .1) (c .text-digest .ensures))
 
 pub listing-spec : {M : Type 1} → statement M
@@ -19,7 +19,7 @@ listing-spec =
     (tie.spec
     (λ c κs. search needs)
     (λ c. search needs)
-    (λ c. rw (← c .before .u16-at .ensures, lt-ltb 26096 _ (c .if1 .taken)))
+    (λ c. rw (← c .before .u16-at .ensures, lt-ltb 28144 _ (c .if1 .taken)))
     (λ c κs. search needs)
     (λ c κs. search needs)
     (λ c. search needs)

@@ -8,7 +8,7 @@ use Rattle.vectors.proofs.calls.run.Tie as tie
 
 returns : tie.Need-returns-3
 returns c =
-    let t = c .before .before .before in
+    let t = c .before .before .before .before in
     let b = t .before in
     let m = b .before .before .before .before in
     let f = m .before .before in
@@ -42,5 +42,6 @@ run-spec =
     (λ c κs. search needs)
     (λ c κs. search needs)
     (λ c κs. search needs)
+    (λ c. search needs)
     (λ c κs. search needs)
     returns)

@@ -8,7 +8,7 @@ use Rattle.vectors.proofs.calls.step.Tie as tie
 
 returns : tie.Need-returns-3
 returns c =
-    let t = c .before .before .before .before in
+    let t = c .before .before .before .before .before in
     let b = t .before .before in
     let y = b .before .before .before in
     let m = y .before .before in
@@ -48,6 +48,7 @@ step-spec =
     (λ c. search needs)
     (λ c. sym (length-take-le _ _ (search needs)))
     (λ c κs. search needs)
+    (λ c. search needs)
     (λ c. search needs)
     (λ c κs. search needs)
     returns)

@@ -1,0 +1,159 @@
+-- Rule 5.11 as C sees it (request 3): a status 4 has a reason from 1 to 6, and no other status has one. The reason is the number of the first wrong
+-- field of the bytes that were refused: those that are decoded or stepped, and those from the place on where a list is run or mapped.
+use Prim.Native.Nat.{ℕ}
+use mathlib.Core.Path.{_≡_, refl, _∙_, sym, ap}
+use mathlib.Core.List.{List}
+use native.Mathlib.Omega.{arith}
+use lib.Dec.{eqb, leb}
+use lib.ListN.{length, drop}
+use Rattle.seq.specs.Choice.{if_then_else_, both}
+use Rattle.seq.proofs.Choice.{of-either}
+use Rattle.isa.specs.Kinds.{codeLimit}
+use Rattle.isa.specs.Features.{featuresKnown}
+use Rattle.isa.specs.Refusal.{statusOf, fieldNumber, reasonOf}
+use Rattle.isa.proofs.Reasons.{Why, for-field, for-other, why-is, Reasoned, done-reasoned, reasoned}
+use Rattle.isa.specs.declared.refusal.Field.{Field}
+use Rattle.isa.specs.declared.refusal.Refusal.{Refusal}
+use Rattle.isa.specs.declared.refusal.Refusal.the-variants.{Argument, Reserved, MemoryLength, Unmappable, TooLong}
+use Rattle.decode.specs.Instruction.{wantedOf}
+use Rattle.decode.specs.Decode.{decodeOf}
+use Rattle.decode.proofs.Reasons.{FirstWrong, first-wrong}
+use Rattle.decode.specs.declared.instruction.Instruction.{Instruction}
+use Rattle.decode.specs.declared.instruction.Decoded.{Decoded}
+use Rattle.step.specs.Step.{sizesRight, executedOf, onDecoded, stepOf}
+use Rattle.step.specs.declared.Stepped.{Stepped}
+use Rattle.moves.specs.Mappable.{mappable}
+use Rattle.run.specs.Run.{withoutMemory, runSplit, steppedRun, refusedRun, runOf}
+use Rattle.run.proofs.Splits.{refused-as-decoded}
+use Rattle.run.specs.declared.Answer.{Answer}
+use Rattle.run.specs.declared.Ran.{Ran}
+use Rattle.bytemap.specs.Build.{buildSplit, scannedOf, rightSizes, refusedBuild, buildOf}
+use Rattle.bytemap.specs.declared.Built.{Built}
+use Rattle.tarhuspo.specs.Decoded.{acceptedOf, refusedOf, decodedOf}
+use Rattle.tarhuspo.specs.Stepped.{steppedOf}
+use Rattle.tarhuspo.specs.Lists.{answerStatus, answerReason, ranOf, builtOf}
+
+-- ---- a reason with 4, and with nothing else
+
+pub decoded-reasoned : (d : Decoded) → Reasoned (decodedOf d .status) (decodedOf d .reason)
+unfolding acceptedOf refusedOf
+decoded-reasoned (Decoded.Accepted x) = done-reasoned
+decoded-reasoned (Decoded.Refused why) = reasoned why
+
+pub stepped-reasoned : (s : Stepped) → Reasoned (steppedOf s .status) (steppedOf s .reason)
+stepped-reasoned (Stepped.Done n) = done-reasoned
+stepped-reasoned (Stepped.Refused why) = reasoned why
+
+answer-reasoned : (a : Answer) → Reasoned (answerStatus a) (answerReason a)
+answer-reasoned Answer.Done = done-reasoned
+answer-reasoned (Answer.Refused why) = reasoned why
+
+pub ran-reasoned : (r : Ran) → Reasoned (ranOf r .status) (ranOf r .reason)
+ran-reasoned r = answer-reasoned (r .answer)
+
+pub built-reasoned : (b : Built) → Reasoned (builtOf b .status) (builtOf b .reason)
+built-reasoned b = answer-reasoned (b .answer)
+
+-- ---- the reason's field
+
+pub record Names (code : List ℕ) (reason : ℕ) : Type 0 where
+  pub field : Field
+  pub number : reason ≡ fieldNumber field
+  pub first : FirstWrong code field
+
+-- a refusal with 4 names the field, if decoding gives it for those bytes
+names : (code : List ℕ) (features : ℕ) (why : Refusal) → ((f : Field) → why ≡ Reserved f → decodeOf code features ≡ Decoded.Refused (Reserved f)) → statusOf why ≡ 4 → Names code (reasonOf why)
+names code features why decoded e = by (why-is why)
+  where
+    by : Why why → Names code (reasonOf why)
+    by (for-field f p) = record { field = f; number = ap reasonOf p; first = first-wrong code features f (decoded f p) }
+    by (for-other nay r) = absurd (nay e)
+
+names-decoded : (code : List ℕ) (features : ℕ) (d : Decoded) → decodeOf code features ≡ d → decodedOf d .status ≡ 4 → Names code (decodedOf d .reason)
+unfolding acceptedOf refusedOf
+names-decoded code features (Decoded.Accepted x) p e = absurd (omega arith)
+names-decoded code features (Decoded.Refused why) p e = names code features why (λ f q. p ∙ ap Decoded.Refused q) e
+
+pub decode-names : (code : List ℕ) (features : ℕ) → decodedOf (decodeOf code features) .status ≡ 4 → Names code (decodedOf (decodeOf code features) .reason)
+decode-names code features e = names-decoded code features (decodeOf code features) refl e
+
+-- ---- a step's refusal for a field is decoding's
+
+abbrev StepFor : List ℕ → ℕ → Field → Stepped → Type 0
+StepFor code features f s = s ≡ Stepped.Refused (Reserved f) → decodeOf code features ≡ Decoded.Refused (Reserved f)
+
+not-stepped : (code : List ℕ) (features : ℕ) (f : Field) (why : Refusal) → (statusOf why ≡ 4 → ⊥) → StepFor code features f (Stepped.Refused why)
+not-stepped code features f why nay e = let z : why ≡ Reserved f = cc in absurd (nay (ap statusOf z))
+
+not-done : (code : List ℕ) (features : ℕ) (f : Field) (n : ℕ) → StepFor code features f (Stepped.Done n)
+not-done code features f n e = let z : _≡_ {A = ℕ} 0 1 = cc in absurd (omega arith)
+
+on-decoded : (code : List ℕ) (features memory : ℕ) (f : Field) (d : Decoded) → decodeOf code features ≡ d → StepFor code features f (onDecoded d memory)
+unfolding executedOf
+on-decoded code features memory f (Decoded.Refused why) p e = let z : why ≡ Reserved f = cc in p ∙ ap Decoded.Refused z
+on-decoded code features memory f (Decoded.Accepted x) p e =
+    of-either (StepFor code features f) (eqb memory (wantedOf (x .third))) _ _ (not-done code features f (x .length)) (not-stepped code features f MemoryLength (λ h. omega arith)) e
+
+step-as-decoded : (code : List ℕ) (file masks features memory : ℕ) (f : Field) → StepFor code features f (stepOf code file masks features memory)
+unfolding stepOf
+step-as-decoded code file masks features memory f =
+    of-either (StepFor code features f) (sizesRight file masks) _ _ (on-decoded code features memory f (decodeOf code features) refl) (not-stepped code features f Argument (λ h. omega arith))
+
+names-stepped : (code : List ℕ) (file masks features memory : ℕ) (s : Stepped) → stepOf code file masks features memory ≡ s → steppedOf s .status ≡ 4 → Names code (steppedOf s .reason)
+names-stepped code file masks features memory (Stepped.Done n) p e = absurd (omega arith)
+names-stepped code file masks features memory (Stepped.Refused why) p e =
+    names code features why (λ f q. step-as-decoded code file masks features memory f (p ∙ ap Stepped.Refused q)) e
+
+pub step-names : (code : List ℕ) (file masks features memory : ℕ) → let s = steppedOf (stepOf code file masks features memory) in s .status ≡ 4 → Names code (s .reason)
+step-names code file masks features memory e = names-stepped code file masks features memory (stepOf code file masks features memory) refl e
+
+-- ---- a list's is decoding's at the place
+
+abbrev ListFor : List ℕ → ℕ → Field → Answer → ℕ → Type 0
+ListFor code features f a place = a ≡ Answer.Refused (Reserved f) → decodeOf (drop place code) features ≡ Decoded.Refused (Reserved f)
+
+not-answered : (code : List ℕ) (features : ℕ) (f : Field) (why : Refusal) → (statusOf why ≡ 4 → ⊥) → ListFor code features f (Answer.Refused why) 0
+not-answered code features f why nay e = let z : why ≡ Reserved f = cc in absurd (nay (ap statusOf z))
+
+not-field : (f : Field) (why : Refusal) → (statusOf why ≡ 4 → ⊥) → Reserved f ≡ why → ⊥
+not-field f why nay e = nay (ap statusOf (sym e))
+
+names-answered : (code : List ℕ) (features place : ℕ) (a : Answer) → ((f : Field) → ListFor code features f a place) → answerStatus a ≡ 4 → Names (drop place code) (answerReason a)
+names-answered code features place Answer.Done decoded e = absurd (omega arith)
+names-answered code features place (Answer.Refused why) decoded e = names (drop place code) features why (λ f q. decoded f (ap Answer.Refused q)) e
+
+abbrev RunFor : List ℕ → ℕ → Field → Ran → Type 0
+RunFor code features f r = ListFor code features f (r .answer) (r .place)
+
+run-as-decoded : (code : List ℕ) (file masks features budget : ℕ) (f : Field) → RunFor code features f (runOf code file masks features budget)
+unfolding runOf steppedRun runSplit
+run-as-decoded code file masks features budget f =
+    let run = steppedRun code features budget in
+    of-either (RunFor code features f) (both (sizesRight file masks) (featuresKnown features)) (if leb (length code) codeLimit then run else refusedRun TooLong) (refusedRun Argument)
+    (of-either (RunFor code features f) (leb (length code) codeLimit) run (refusedRun TooLong)
+    (refused-as-decoded withoutMemory MemoryLength features budget code (Reserved f) (not-field f MemoryLength (λ h. omega arith)))
+    (not-answered code features f TooLong (λ h. omega arith)))
+    (not-answered code features f Argument (λ h. omega arith))
+
+pub run-names : (code : List ℕ) (file masks features budget : ℕ) → let r = ranOf (runOf code file masks features budget) in r .status ≡ 4 → Names (drop (r .place) code) (r .reason)
+run-names code file masks features budget e =
+    let r = runOf code file masks features budget in
+    names-answered code features (r .place) (r .answer) (run-as-decoded code file masks features budget) e
+
+abbrev BuildFor : List ℕ → ℕ → Field → Built → Type 0
+BuildFor code features f b = ListFor code features f (b .answer) (b .place)
+
+build-as-decoded : (code : List ℕ) (masks features m : ℕ) (f : Field) → BuildFor code features f (buildOf code masks features m)
+unfolding buildOf scannedOf buildSplit
+build-as-decoded code masks features m f =
+    let built = scannedOf code features in
+    of-either (BuildFor code features f) (rightSizes masks m features) (if leb (length code) codeLimit then built else refusedBuild TooLong) (refusedBuild Argument)
+    (of-either (BuildFor code features f) (leb (length code) codeLimit) built (refusedBuild TooLong)
+    (refused-as-decoded mappable Unmappable features (length code) code (Reserved f) (not-field f Unmappable (λ h. omega arith)))
+    (not-answered code features f TooLong (λ h. omega arith)))
+    (not-answered code features f Argument (λ h. omega arith))
+
+pub build-names : (code : List ℕ) (masks features m : ℕ) → let b = builtOf (buildOf code masks features m) in b .status ≡ 4 → Names (drop (b .place) code) (b .reason)
+build-names code masks features m e =
+    let b = buildOf code masks features m in
+    names-answered code features (b .place) (b .answer) (build-as-decoded code masks features m) e
