@@ -8,7 +8,6 @@ use lib.Dec.{eqb}
 use lib.ListN.{length, drop, length-append}
 use borrow.Author.Tests.{eq-eqb, ne-eqb}
 use Rattle.decode.proofs.Laws.{accepted-size}
-use Rattle.seq.specs.Choice.{both}
 use Rattle.seq.proofs.Tabulate.{by-lt}
 use Rattle.seq.proofs.Choice.{both-true}
 use Rattle.isa.specs.declared.refusal.Refusal.{Refusal}

@@ -1,7 +1,7 @@
 -- Rule 5.11 (request 3): the field that comes with answer 4 is wrong, and none before it is. Where the answer is 0, none is.
-use Prim.Native.Nat.{ℕ, _+_, _-_, _<_, _≤_}
-use mathlib.Core.Path.{_≡_, refl, _∙_, sym, ap}
-use mathlib.Core.Bool.{Bool, true, false, not}
+use Prim.Native.Nat.{ℕ, _+_, _<_}
+use mathlib.Core.Path.{_≡_, refl, _∙_, ap}
+use mathlib.Core.Bool.{Bool, true, false}
 use mathlib.Core.List.{List}
 use native.Mathlib.Omega.{arith}
 use lib.ListN.{length, getD}
@@ -18,11 +18,10 @@ use Rattle.isa.specs.declared.refusal.Refusal.{Refusal}
 use Rattle.isa.specs.declared.refusal.Refusal.the-variants.{Argument, Truncated, Unlisted, Reserved, Feature}
 use Rattle.isa.specs.declared.table.Row.{Row}
 use Rattle.isa.specs.declared.table.Found.{Found}
-use Rattle.decode.specs.Prefix.{prefixSize, prefixOf, fixedBits, keyOf, headOf}
+use Rattle.decode.specs.Prefix.{prefixSize, fixedBits, keyOf, headOf}
 use Rattle.decode.specs.Modrm.{totalOf}
 use Rattle.decode.specs.Reserved.{wrongW, wrongWidth, wrongVvvv, wrongBroadcast, wrongZeroing, checkOf, enoughOf}
-use Rattle.decode.specs.Fields.{prefixIn, rowIn, inRow, isWrong}
-use Rattle.decode.specs.Instruction.{instructionOf}
+use Rattle.decode.specs.Fields.{prefixIn, rowIn, isWrong}
 use Rattle.decode.specs.Decode.{finishOf, onCheck, onTotal, onRow, onHead, knownOf, decodeOf}
 use Rattle.decode.proofs.Laws.{headed, taken}
 use Rattle.decode.specs.declared.prefix.Prefix.{Prefix}

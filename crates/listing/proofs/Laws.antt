@@ -1,7 +1,7 @@
 -- Rules 8.1, 8.2, 8.4 and 8.5: the bytes written are the listing, and behind them the text stays as it was. A refused call writes none. A refused
 -- step has decoding's refusal.
 use Prim.Native.Nat.{ℕ}
-use mathlib.Core.Path.{_≡_, refl, sym}
+use mathlib.Core.Path.{_≡_, refl}
 use mathlib.Core.Bool.{Bool, true, false}
 use mathlib.Core.List.{List, _++_}
 use lib.Dec.{leb}

@@ -10,11 +10,10 @@ use native.Mathlib.Nat.{div-add-mod, div-le-self, mul-div-le}
 use lib.Dec.{eqb, leb}
 use lib.ListN.{length, getD, take, drop, length-map, List·getD-map, List·getD-eq-default}
 use borrow.Author.Tests.{le-leb, lt-leb, eq-eqb, eqb-false}
-use Rattle.seq.specs.Choice.{if_then_else_, both}
-use Rattle.seq.specs.Tabulate.{tabulate}
+use Rattle.seq.specs.Choice.{if_then_else_}
 use Rattle.seq.proofs.Choice.{of-either, both-true}
 use Rattle.seq.proofs.Tabulate.{by-lt, length-tabulate, getD-tabulate, tabulate-ext, map-tabulate}
-use Rattle.seq.proofs.Parts.{map-take, map-drop, part-same, every, at-every}
+use Rattle.seq.proofs.Parts.{map-take, map-drop, part-same, at-every}
 use Rattle.isa.specs.Kinds.{registers, registerBytes, offsetOf}
 use Rattle.isa.specs.Operands.{widthBytes, elementBytes}
 use Rattle.isa.specs.declared.kinds.Reg.{Reg}

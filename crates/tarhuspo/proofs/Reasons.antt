@@ -18,7 +18,6 @@ use Rattle.isa.specs.declared.refusal.Refusal.the-variants.{Argument, Reserved,
 use Rattle.decode.specs.Instruction.{wantedOf}
 use Rattle.decode.specs.Decode.{decodeOf}
 use Rattle.decode.proofs.Reasons.{FirstWrong, first-wrong}
-use Rattle.decode.specs.declared.instruction.Instruction.{Instruction}
 use Rattle.decode.specs.declared.instruction.Decoded.{Decoded}
 use Rattle.step.specs.Step.{sizesRight, executedOf, onDecoded, stepOf}
 use Rattle.step.specs.declared.Stepped.{Stepped}

@@ -50,40 +50,16 @@ listedFields l = l .written ∷ l .status ∷ []
 -- one of each in the order of their numbers, and of those for a reserved field one for each field in the order of theirs
 abbrev pub refusals : List Refusal
 refusals =
-    Argument
-    ∷ Truncated
-    ∷ Unlisted
-    ∷ Reserved FixedBits
-    ∷ Reserved W
-    ∷ Reserved Width
-    ∷ Reserved Vvvv
-    ∷ Reserved Broadcast
-    ∷ Reserved Zeroing
-    ∷ Feature
-    ∷ MemoryLength
-    ∷ Unmappable
-    ∷ TooLong
-    ∷ BadEntry
-    ∷ []
+    (Argument ∷ Truncated ∷ Unlisted ∷ [])
+    ++ map Reserved (FixedBits ∷ W ∷ Width ∷ Vvvv ∷ Broadcast ∷ Zeroing ∷ [])
+    ++ (Feature ∷ MemoryLength ∷ Unmappable ∷ TooLong ∷ BadEntry ∷ [])
 
 -- the number and the reason of each
 abbrev pub numbers : List (ℕ × ℕ)
 numbers =
-    (1, 0)
-    ∷ (2, 0)
-    ∷ (3, 0)
-    ∷ (4, 1)
-    ∷ (4, 2)
-    ∷ (4, 3)
-    ∷ (4, 4)
-    ∷ (4, 5)
-    ∷ (4, 6)
-    ∷ (5, 0)
-    ∷ (6, 0)
-    ∷ (7, 0)
-    ∷ (8, 0)
-    ∷ (9, 0)
-    ∷ []
+    map (λ (n : ℕ). (n, 0)) (1 ∷ 2 ∷ 3 ∷ [])
+    ++ map (λ (n : ℕ). (4, n)) (1 ∷ 2 ∷ 3 ∷ 4 ∷ 5 ∷ 6 ∷ [])
+    ++ map (λ (n : ℕ). (n, 0)) (5 ∷ 6 ∷ 7 ∷ 8 ∷ 9 ∷ [])
 
 -- a list's answer: done, and each refusal
 abbrev pub answers : List Answer
