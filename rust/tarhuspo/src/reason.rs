@@ -53,7 +53,9 @@ pub fn describe_reason(reason: u32) -> &'static str {
             "The width must be one that exists: EVEX has none for L'L 11b, and VPERM2F128 has L 1 \
              alone."
         }
-        VVVV => "vvvv must be 1111b: this form has no first source, and under EVEX V' must be 1 too.",
+        VVVV => {
+            "vvvv must be 1111b: this form has no first source, and under EVEX V' must be 1 too."
+        }
         B => {
             "b must be 0 with a register as third operand, and on VPERMB and VPSHUFB, which have \
              no broadcast."

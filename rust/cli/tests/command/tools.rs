@@ -93,7 +93,8 @@ pub fn assert_refused_with(arguments: &[&str], refusal: &str) {
 
 /// What stands behind `status` for a wrong vvvv.
 pub const WRONG_VVVV: &str =
-    "4 (#UD), reason 4: vvvv must be 1111b: this form has no first source, and under EVEX V' must be 1 too.";
+    "4 (#UD), reason 4: vvvv must be 1111b: this form has no first source, \
+     and under EVEX V' must be 1 too.";
 /// The same for a width that VPERM2F128 does not have.
 pub const WRONG_WIDTH: &str =
     "4 (#UD), reason 3: The width must be one that exists: EVEX has none \
