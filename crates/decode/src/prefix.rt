@@ -117,7 +117,7 @@ fn evex(p: u8, q: u8, s: u8) -> Prefix
     }
 }
 
-fn fields(b0: u8, b1: u8, b2: u8, b3: u8) -> Prefix
+pub fn fields(b0: u8, b1: u8, b2: u8, b3: u8) -> Prefix
     ensures { λ r. ⌜ r ≡ prefixOf b0 b1 b2 b3 ⌝ }
 {
     if b0 == 0xC5 {

@@ -18,7 +18,10 @@ use Rattle.decode.specs.declared.instruction.Decoded.the-variants.{Accepted, Re
 use Rattle.step.specs.Step.{stepOf}
 use Rattle.step.proofs.Laws.{carried-out}
 use Rattle.step.specs.declared.Stepped.{Stepped}
+use Rattle.address.specs.declared.Addressed.{Addressed}
 use Rattle.tarhuspo.specs.Stepped.{steppedOf}
+use Rattle.tarhuspo.specs.Addressed.{noAddress, addressedOf}
+use Rattle.tarhuspo.specs.declared.TarhuspoAddressed.{TarhuspoAddressed}
 use Rattle.tarhuspo.specs.declared.TarhuspoStepped.{TarhuspoStepped}
 use Rattle.tarhuspo.specs.Decoded.{encodingNumber, firstNumber, thirdNumber, hasImmediate, immediateNumber, flag, acceptedOf, refusedOf, decodedOf}
 use Rattle.tarhuspo.specs.declared.TarhuspoDecoded.{TarhuspoDecoded}
@@ -59,3 +62,13 @@ module _ (code masks : List ℕ) (features : ℕ) (memory file : List ℕ) (k : 
   pub refuses : (why : Refusal) → k ≡ Stepped.Refused why → (s r : ℕ) → s ≡ statusOf why → r ≡ reasonOf why
       → _≡_ {A = TarhuspoStepped} (record { status = s; length = 0; reason = r }) (steppedOf (stepOf code (length file) (length masks) features (length memory)))
   refuses why q s r e g = rw (← p, q, e, g)
+
+module _ (k want : Addressed) (p : k ≡ want) where
+  pub gives-address : (a : ℕ) → k ≡ Addressed.At a → _≡_ {A = TarhuspoAddressed} (record { address = a; status = 0; reason = 0; «has_address» = 1 }) (addressedOf want)
+  gives-address a q = rw (← p, q)
+
+  pub gives-none : k ≡ Addressed.Nowhere → (r : TarhuspoAddressed) → r ≡ noAddress 0 0 → r ≡ addressedOf want
+  gives-none q r e = rw (← p, q) e
+
+  pub gives-refusal : (why : Refusal) → k ≡ Addressed.Refused why → (s n : ℕ) → s ≡ statusOf why → n ≡ reasonOf why → (r : TarhuspoAddressed) → r ≡ noAddress s n → r ≡ addressedOf want
+  gives-refusal why q s n e g r h = rw (← p, q, ← e, ← g) h

@@ -6,10 +6,13 @@ ghost use Rattle.step.specs.Step.{stepOf, fileAfter};
 ghost use Rattle.run.specs.Run.{runOf, fileAfterRun};
 ghost use Rattle.bytemap.specs.Build.{buildOf, mapBuilt};
 ghost use Rattle.bytemap.specs.ByteMap.{applyOf, fileApplied, composeOf, mapComposed};
+ghost use Rattle.address.specs.Address.{addressOf};
 ghost use Rattle.tarhuspo.specs.Stepped.{steppedOf};
+ghost use Rattle.tarhuspo.specs.Addressed.{noAddress, addressedOf};
 ghost use Rattle.listing.specs.Listing.{listingOf, textAfter};
 ghost use Rattle.tarhuspo.specs.Lists.{answerStatus, answerReason, ranOf, builtOf, listedOf};
 ghost use Rattle.tarhuspo.specs.Decoded.{encodingNumber, firstNumber, thirdNumber, hasImmediate, immediateNumber, flag, acceptedOf, refusedOf, decodedOf};
+use address::Addressed;
 use decode::instruction::Decoded;
 use decode::instruction::First;
 use decode::instruction::Immediate;
@@ -294,5 +297,46 @@ pub extern "C" fn tarhuspo_listing(code: &[u8], text: &mut [u8]) -> TarhuspoList
     TarhuspoListed {
         written: listed.written as u64,
         status: status_of(answer),
+    }
+}
+
+// tarhuspo_addressed. Without an address, address is 0.
+#[repr(C)]
+pub struct TarhuspoAddressed {
+    pub address: u64,
+    pub status: u32,
+    pub reason: u32,
+    pub has_address: u32,
+}
+
+fn no_address(status: u32, reason: u32) -> TarhuspoAddressed
+    ensures { λ r. ⌜ r ≡ noAddress status reason ⌝ }
+{
+    TarhuspoAddressed {
+        address: 0,
+        status: status,
+        reason: reason,
+        has_address: 0,
+    }
+}
+
+#[no_mangle]
+pub extern "C" fn tarhuspo_address(
+    code: &[u8],
+    features: u32,
+    registers: &[u64],
+    instruction_address: u64,
+) -> TarhuspoAddressed
+    ensures { λ r. ⌜ r ≡ addressedOf (addressOf (now (code .entry)) features (now (registers .entry)) «instruction_address») ⌝ }
+{
+    match address::address(code, Features(features), registers, instruction_address) {
+        Addressed::At(place) => TarhuspoAddressed {
+            address: place,
+            status: 0,
+            reason: 0,
+            has_address: 1,
+        },
+        Addressed::Nowhere => no_address(0, 0),
+        Addressed::Refused(why) => no_address(why.status(), why.reason()),
     }
 }

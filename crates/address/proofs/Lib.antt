@@ -1,0 +1,3 @@
+-- The rules that the proofs hand to `search`, and the laws of addresses.
+mod Sums
+mod Compose
