@@ -2,3 +2,4 @@
 pub mod Displacement
 pub mod Operand
 pub mod Address
+pub mod Examples

@@ -1,0 +1,190 @@
+-- Section 10 of the rules, computed: whole addresses from bytes. In `registers` register k holds 65,536 · 2^k, so that a sum shows what it is made of,
+-- and the instruction stands at 16,384. A negative number is written as 2^64 less.
+use Prim.Native.Nat.{ℕ, _+_, _-_, _*_, _^_}
+use mathlib.Core.Path.{_≡_, refl}
+use mathlib.Core.List.{List, [], _∷_, map}
+use lib.ListN.{replicate}
+use Rattle.seq.specs.Tabulate.{tabulate}
+use Rattle.isa.specs.Features.{allFeatures, hasFeature}
+use Rattle.isa.specs.Operands.{widthOf, elementOf, digitsOf, halfOf, moveFrom, controlOf}
+use Rattle.isa.specs.Table.{rows, findIn, matchesRow, matchesW}
+use Rattle.isa.specs.declared.refusal.Field.the-variants.{Vvvv}
+use Rattle.isa.specs.declared.refusal.Refusal.{Refusal}
+use Rattle.isa.specs.declared.refusal.Refusal.the-variants.{Argument, Truncated, Unlisted, Reserved, Feature}
+use Rattle.decode.specs.Prefix.{prefixSize, prefixOf, fixedBits, headOf}
+use Rattle.decode.specs.Modrm.{sibSize, displacementSize}
+use Rattle.decode.specs.Reserved.{wrongW, wrongWidth, wrongVvvv, wrongBroadcast, wrongZeroing, checkOf, neededOf, enoughOf}
+use Rattle.decode.specs.Instruction.{encodingOf, firstOf, thirdOf, immediateOf, instructionOf}
+use Rattle.decode.specs.Decode.{finishOf, onTotal, onRow, onHead, knownOf, decodeOf}
+use Rattle.address.specs.Displacement.{signedOf, displacementOf}
+use Rattle.address.specs.Operand.{baseOf, indexOf, scaleOf, operandOf}
+use Rattle.address.specs.Address.{addressOf}
+use Rattle.address.specs.declared.Addressed.{Addressed}
+
+pub record Example : Type 0 where
+  pub bytes : List ℕ
+  pub gives : Addressed
+
+abbrev pub at : List ℕ → ℕ → Example
+at bytes address = record { bytes = bytes; gives = Addressed.At address }
+
+abbrev pub nowhere : List ℕ → Example
+nowhere bytes = record { bytes = bytes; gives = Addressed.Nowhere }
+
+abbrev pub registers : List ℕ
+registers = tabulate 16 (λ k. 65536 * 2 ^ k)
+
+abbrev pub place : ℕ
+place = 16384
+
+-- what register k holds
+abbrev pub held : ℕ → ℕ
+held k = 65536 * 2 ^ k
+
+-- ---- displacements, with registers that all hold 0
+
+-- rule 10.7, request 4's three numbers: [rax + ..] of 512 bits; the same bytes under VEX; b 1 with elements of 4 and of 8 bytes; 128 and 256 bits. Then
+-- four bytes, which EVEX does not multiply
+unfoldable pub displacements : List Example
+displacements =
+    at (0x62 ∷ 0xF1 ∷ 0x7D ∷ 0x48 ∷ 0x70 ∷ 0x48 ∷ 0x80 ∷ 0x1B ∷ []) (2 ^ 64 - 8192)
+    ∷ at (0x62 ∷ 0xF1 ∷ 0x7D ∷ 0x48 ∷ 0x70 ∷ 0x48 ∷ 0xFF ∷ 0x1B ∷ []) (2 ^ 64 - 64)
+    ∷ at (0x62 ∷ 0xF1 ∷ 0x7D ∷ 0x48 ∷ 0x70 ∷ 0x48 ∷ 0x7F ∷ 0x1B ∷ []) 8128
+    ∷ at (0xC5 ∷ 0xF9 ∷ 0x70 ∷ 0x48 ∷ 0x80 ∷ 0x1B ∷ []) (2 ^ 64 - 128)
+    ∷ at (0xC5 ∷ 0xF9 ∷ 0x70 ∷ 0x48 ∷ 0xFF ∷ 0x1B ∷ []) (2 ^ 64 - 1)
+    ∷ at (0xC5 ∷ 0xF9 ∷ 0x70 ∷ 0x48 ∷ 0x7F ∷ 0x1B ∷ []) 127
+    ∷ at (0xC5 ∷ 0xFD ∷ 0x70 ∷ 0x48 ∷ 0xFF ∷ 0x1B ∷ []) (2 ^ 64 - 1)
+    ∷ at (0x62 ∷ 0xF1 ∷ 0x7D ∷ 0x58 ∷ 0x70 ∷ 0x48 ∷ 0x80 ∷ 0x1B ∷ []) (2 ^ 64 - 512)
+    ∷ at (0x62 ∷ 0xF1 ∷ 0x7D ∷ 0x58 ∷ 0x70 ∷ 0x48 ∷ 0x7F ∷ 0x1B ∷ []) 508
+    ∷ at (0x62 ∷ 0xF3 ∷ 0xFD ∷ 0x58 ∷ 0x05 ∷ 0x48 ∷ 0xFF ∷ 0x01 ∷ []) (2 ^ 64 - 8)
+    ∷ at (0x62 ∷ 0xF3 ∷ 0xFD ∷ 0x58 ∷ 0x05 ∷ 0x48 ∷ 0x7F ∷ 0x01 ∷ []) 1016
+    ∷ at (0x62 ∷ 0xF1 ∷ 0x7D ∷ 0x08 ∷ 0x70 ∷ 0x48 ∷ 0xFF ∷ 0x1B ∷ []) (2 ^ 64 - 16)
+    ∷ at (0x62 ∷ 0xF1 ∷ 0x7D ∷ 0x28 ∷ 0x70 ∷ 0x48 ∷ 0xFF ∷ 0x1B ∷ []) (2 ^ 64 - 32)
+    ∷ at (0x62 ∷ 0xF1 ∷ 0x7D ∷ 0x48 ∷ 0x70 ∷ 0x88 ∷ 0xFF ∷ 0xFF ∷ 0xFF ∷ 0xFF ∷ 0x1B ∷ []) (2 ^ 64 - 1)
+    ∷ at (0x62 ∷ 0xF1 ∷ 0x7D ∷ 0x48 ∷ 0x70 ∷ 0x88 ∷ 0x00 ∷ 0x00 ∷ 0x00 ∷ 0x80 ∷ 0x1B ∷ []) (2 ^ 64 - 2147483648)
+    ∷ at (0x62 ∷ 0xF1 ∷ 0x7D ∷ 0x58 ∷ 0x70 ∷ 0x88 ∷ 0xFF ∷ 0xFF ∷ 0xFF ∷ 0x7F ∷ 0x1B ∷ []) 2147483647
+    ∷ []
+
+-- ---- bases and indexes
+
+-- rule 10.3: [rbx]; [rsp], which takes a SIB; [rbp] and [r13] with a displacement of 0; [r8] under VEX and EVEX; [rdi + 1]. Under VEX and EVEX, X
+-- without an index does not matter
+unfoldable pub bases : List Example
+bases =
+    at (0xC5 ∷ 0xF9 ∷ 0x70 ∷ 0x0B ∷ 0x1B ∷ []) (held 3)
+    ∷ at (0xC5 ∷ 0xF9 ∷ 0x70 ∷ 0x0C ∷ 0x24 ∷ 0x1B ∷ []) (held 4)
+    ∷ at (0xC5 ∷ 0xF9 ∷ 0x70 ∷ 0x4D ∷ 0x00 ∷ 0x1B ∷ []) (held 5)
+    ∷ at (0xC5 ∷ 0xF9 ∷ 0x70 ∷ 0x4C ∷ 0x25 ∷ 0x00 ∷ 0x1B ∷ []) (held 5)
+    ∷ at (0xC4 ∷ 0xC1 ∷ 0x79 ∷ 0x70 ∷ 0x4D ∷ 0x00 ∷ 0x1B ∷ []) (held 13)
+    ∷ at (0xC4 ∷ 0xC1 ∷ 0x79 ∷ 0x70 ∷ 0x08 ∷ 0x1B ∷ []) (held 8)
+    ∷ at (0x62 ∷ 0xD1 ∷ 0x7D ∷ 0x48 ∷ 0x70 ∷ 0x08 ∷ 0x1B ∷ []) (held 8)
+    ∷ at (0xC5 ∷ 0xF9 ∷ 0x70 ∷ 0x8F ∷ 0x01 ∷ 0x00 ∷ 0x00 ∷ 0x00 ∷ 0x1B ∷ []) (held 7 + 1)
+    ∷ at (0xC4 ∷ 0xA1 ∷ 0x79 ∷ 0x70 ∷ 0x0B ∷ 0x1B ∷ []) (held 3)
+    ∷ at (0x62 ∷ 0xB1 ∷ 0x7D ∷ 0x48 ∷ 0x70 ∷ 0x0B ∷ 0x1B ∷ []) (held 3)
+    ∷ []
+
+-- rules 10.4 and 10.5: [rax + rcx·1], ·2, ·4, ·8; index 4 with X 0, whose scale does not matter; r12 under VEX and EVEX; [r9 + r10·8 - 64]; rsi as base
+-- and index
+unfoldable pub indexes : List Example
+indexes =
+    at (0xC5 ∷ 0xF9 ∷ 0x70 ∷ 0x0C ∷ 0x08 ∷ 0x1B ∷ []) (held 0 + held 1)
+    ∷ at (0xC5 ∷ 0xF9 ∷ 0x70 ∷ 0x0C ∷ 0x48 ∷ 0x1B ∷ []) (held 0 + 2 * held 1)
+    ∷ at (0xC5 ∷ 0xF9 ∷ 0x70 ∷ 0x0C ∷ 0x88 ∷ 0x1B ∷ []) (held 0 + 4 * held 1)
+    ∷ at (0xC5 ∷ 0xF9 ∷ 0x70 ∷ 0x0C ∷ 0xC8 ∷ 0x1B ∷ []) (held 0 + 8 * held 1)
+    ∷ at (0xC5 ∷ 0xF9 ∷ 0x70 ∷ 0x0C ∷ 0xE0 ∷ 0x1B ∷ []) (held 0)
+    ∷ at (0xC4 ∷ 0xA1 ∷ 0x79 ∷ 0x70 ∷ 0x0C ∷ 0x20 ∷ 0x1B ∷ []) (held 0 + held 12)
+    ∷ at (0x62 ∷ 0xB1 ∷ 0x7D ∷ 0x48 ∷ 0x70 ∷ 0x0C ∷ 0xA0 ∷ 0x1B ∷ []) (held 0 + 4 * held 12)
+    ∷ at (0x62 ∷ 0x91 ∷ 0x7D ∷ 0x48 ∷ 0x70 ∷ 0x4C ∷ 0xD1 ∷ 0xFF ∷ 0x1B ∷ []) (held 9 + 8 * held 10 - 64)
+    ∷ at (0xC5 ∷ 0xF9 ∷ 0x70 ∷ 0x0C ∷ 0xB6 ∷ 0x1B ∷ []) (5 * held 6)
+    ∷ []
+
+-- rule 10.3, mod 0: [rip] before and behind an immediate and without one, with B 1, negative, and under EVEX; then a SIB without base, with B 1, and
+-- below 0; then with an index
+unfoldable pub baseless : List Example
+baseless =
+    at (0xC5 ∷ 0xF9 ∷ 0x70 ∷ 0x0D ∷ 0x00 ∷ 0x00 ∷ 0x00 ∷ 0x00 ∷ 0x1B ∷ []) (place + 9)
+    ∷ at (0xC5 ∷ 0xE8 ∷ 0x14 ∷ 0x0D ∷ 0x00 ∷ 0x00 ∷ 0x00 ∷ 0x00 ∷ []) (place + 8)
+    ∷ at (0xC4 ∷ 0xC1 ∷ 0x79 ∷ 0x70 ∷ 0x0D ∷ 0x78 ∷ 0x56 ∷ 0x34 ∷ 0x12 ∷ 0x1B ∷ []) (place + 10 + 0x12345678)
+    ∷ at (0xC5 ∷ 0xF9 ∷ 0x70 ∷ 0x0D ∷ 0xF7 ∷ 0xFF ∷ 0xFF ∷ 0xFF ∷ 0x1B ∷ []) place
+    ∷ at (0x62 ∷ 0xF1 ∷ 0x7D ∷ 0x48 ∷ 0x70 ∷ 0x0D ∷ 0x10 ∷ 0x00 ∷ 0x00 ∷ 0x00 ∷ 0x1B ∷ []) (place + 11 + 16)
+    ∷ at (0xC5 ∷ 0xF9 ∷ 0x70 ∷ 0x0C ∷ 0x25 ∷ 0x78 ∷ 0x56 ∷ 0x34 ∷ 0x12 ∷ 0x1B ∷ []) 0x12345678
+    ∷ at (0xC4 ∷ 0xC1 ∷ 0x79 ∷ 0x70 ∷ 0x0C ∷ 0x25 ∷ 0x78 ∷ 0x56 ∷ 0x34 ∷ 0x12 ∷ 0x1B ∷ []) 0x12345678
+    ∷ at (0xC5 ∷ 0xF9 ∷ 0x70 ∷ 0x0C ∷ 0x25 ∷ 0x00 ∷ 0x00 ∷ 0x00 ∷ 0x80 ∷ 0x1B ∷ []) (2 ^ 64 - 2147483648)
+    ∷ at (0xC5 ∷ 0xF9 ∷ 0x70 ∷ 0x0C ∷ 0xCD ∷ 0x10 ∷ 0x00 ∷ 0x00 ∷ 0x00 ∷ 0x1B ∷ []) (8 * held 1 + 16)
+    ∷ []
+
+-- ---- rule 10.8: sums that wrap
+
+-- with -1 in every register: -1 - 8 + 127; -1 + 1; -1 - 128
+unfoldable pub wraps : List Example
+wraps =
+    at (0xC5 ∷ 0xF9 ∷ 0x70 ∷ 0x4C ∷ 0xC8 ∷ 0x7F ∷ 0x1B ∷ []) 118
+    ∷ at (0xC5 ∷ 0xF9 ∷ 0x70 ∷ 0x48 ∷ 0x01 ∷ 0x1B ∷ []) 0
+    ∷ at (0xC5 ∷ 0xF9 ∷ 0x70 ∷ 0x48 ∷ 0x80 ∷ 0x1B ∷ []) (2 ^ 64 - 129)
+    ∷ []
+
+-- from 4 below 2^64: 9 bytes, and 9 bytes and 1 back
+unfoldable pub turns : List Example
+turns =
+    at (0xC5 ∷ 0xF9 ∷ 0x70 ∷ 0x0D ∷ 0x00 ∷ 0x00 ∷ 0x00 ∷ 0x00 ∷ 0x1B ∷ []) 5
+    ∷ at (0xC5 ∷ 0xF9 ∷ 0x70 ∷ 0x0D ∷ 0xF6 ∷ 0xFF ∷ 0xFF ∷ 0xFF ∷ 0x1B ∷ []) (2 ^ 64 - 5)
+    ∷ []
+
+-- ---- rule 10.1: the answers
+
+abbrev pub refused : List ℕ → Refusal → Example
+refused bytes why = record { bytes = bytes; gives = Addressed.Refused why }
+
+-- register forms under VEX and EVEX; then decoding's refusals: cut off before the displacement, no row, a wrong field
+unfoldable pub others : List Example
+others =
+    nowhere (0xC5 ∷ 0xF9 ∷ 0x70 ∷ 0xCA ∷ 0x1B ∷ [])
+    ∷ nowhere (0x62 ∷ 0xF1 ∷ 0x7D ∷ 0x48 ∷ 0x70 ∷ 0xCA ∷ 0x1B ∷ [])
+    ∷ refused [] Truncated
+    ∷ refused (0xC5 ∷ 0xF9 ∷ 0x70 ∷ 0x48 ∷ []) Truncated
+    ∷ refused (0xC5 ∷ 0xF9 ∷ 0x71 ∷ 0x48 ∷ 0x80 ∷ 0x1B ∷ []) Unlisted
+    ∷ refused (0xC5 ∷ 0xF1 ∷ 0x70 ∷ 0x48 ∷ 0x80 ∷ 0x1B ∷ []) (Reserved Vvvv)
+    ∷ []
+
+-- ---- all of them, computed
+
+-- with what each register holds, and where the instruction stands
+abbrev pub answered : List ℕ → ℕ → List Example → List Addressed
+answered values here = map (λ (e : Example). addressOf (e .bytes) allFeatures values here)
+
+abbrev pub expected : List Example → List Addressed
+expected = map (λ (e : Example). e .gives)
+
+abbrev pub all : ℕ → List ℕ
+all value = replicate 16 value
+
+pub record Examples : Type 0 where
+  pub displaced : answered (all 0) place displacements ≡ expected displacements
+  pub based : answered registers place bases ≡ expected bases
+  pub indexed : answered registers place indexes ≡ expected indexes
+  pub without-base : answered registers place baseless ≡ expected baseless
+  pub wrapping : answered (all (2 ^ 64 - 1)) place wraps ≡ expected wraps
+  pub turning : answered registers (2 ^ 64 - 4) turns ≡ expected turns
+  pub otherwise : answered registers place others ≡ expected others
+  -- other than sixteen registers, and features over the limit, before anything else; a missing feature last
+  pub fifteen : addressOf [] 64 (replicate 15 0) 0 ≡ Addressed.Refused Argument
+  pub seventeen : addressOf (0xC5 ∷ 0xF9 ∷ 0x70 ∷ 0xCA ∷ 0x1B ∷ []) allFeatures (replicate 17 0) 0 ≡ Addressed.Refused Argument
+  pub features : addressOf [] 64 (all 0) 0 ≡ Addressed.Refused Argument
+  pub missing : addressOf (0xC5 ∷ 0xF9 ∷ 0x70 ∷ 0x48 ∷ 0x80 ∷ 0x1B ∷ []) 62 (all 0) 0 ≡ Addressed.Refused Feature
+
+pub examples : Examples
+unfolding displacements bases indexes baseless wraps turns others tabulate addressOf operandOf displacementOf signedOf baseOf indexOf scaleOf decodeOf knownOf onHead onRow onTotal finishOf headOf prefixSize prefixOf fixedBits rows findIn matchesRow matchesW sibSize displacementSize checkOf wrongW wrongWidth wrongVvvv wrongBroadcast wrongZeroing enoughOf neededOf hasFeature instructionOf encodingOf firstOf thirdOf immediateOf widthOf elementOf digitsOf halfOf moveFrom controlOf
+examples =
+    record {
+      displaced = refl;
+      based = refl;
+      indexed = refl;
+      without-base = refl;
+      wrapping = refl;
+      turning = refl;
+      otherwise = refl;
+      fifteen = refl;
+      seventeen = refl;
+      features = refl;
+      missing = refl;
+    }
