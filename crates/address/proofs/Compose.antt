@@ -39,8 +39,11 @@ scaled s t v r p e = rw p e
 pub of-base : (b : Base) (g : Gpr) (registers : List ℕ) (next r : ℕ) → b ≡ Base.Register g → r ≡ valueIn registers g → r ≡ baseValue b registers next
 of-base b g registers next r p e = rw p e
 
-pub of-index : (i : Index) (g : Gpr) (registers : List ℕ) (r : ℕ) → i ≡ Index.Register g → r ≡ valueIn registers g → r ≡ indexValue i registers
-of-index i g registers r p e = rw p e
+pub of-index : (i : Index) (g : Gpr) (s : Scale) (registers : List ℕ) → i ≡ Index.Register g s → (v r : ℕ) → v ≡ valueIn registers g → r ≡ wrapped (v * factorOf s) → r ≡ wrapped (indexValue i registers)
+of-index i g s registers p v r q e = rw (p, ← q) e
+
+pub of-none : (i : Index) (registers : List ℕ) → i ≡ Index.Absent → 0 ≡ wrapped (indexValue i registers)
+of-none i registers p = rw p
 
 -- ---- the index
 
@@ -52,9 +55,9 @@ module _ (f : Prefix) (m s : ℕ) (sib : m % 8 ≡ 4) (g : Gpr) (p : g ≡ gprOf
   unfolding indexOf
   no-index e = rw (eq-eqb (m % 8) 4 sib, eq-eqb (gprOf (f .x) (s / 8) .0) 4 (sym number ∙ e))
 
-  pub an-index : (n ≡ 4 → ⊥) → Index.Register g ≡ indexOf f m s
+  pub an-index : (n ≡ 4 → ⊥) → (c : Scale) → c ≡ scaleOf s → Index.Register g c ≡ indexOf f m s
   unfolding indexOf
-  an-index e = rw (eq-eqb (m % 8) 4 sib, ne-eqb (gprOf (f .x) (s / 8) .0) 4 (λ h. e (number ∙ h))) (ap Index.Register p)
+  an-index e c k = rw (eq-eqb (m % 8) 4 sib, ne-eqb (gprOf (f .x) (s / 8) .0) 4 (λ h. e (number ∙ h))) (rw (p, k))
 
 -- ---- the displacement
 
@@ -77,12 +80,12 @@ pub read-prefix : (code : List ℕ) (b0 b1 b2 b3 : ℕ) → b0 ≡ getD code 0 0
     → (f : Prefix) → f ≡ prefixOf b0 b1 b2 b3 → f ≡ prefixIn code
 read-prefix code b0 b1 b2 b3 p0 p1 p2 p3 f e = rw (← p0, ← p1, ← p2, ← p3) e
 
-pub parts : (x : Instruction) (code : List ℕ) (f : Prefix) (m s k n u : ℕ) (b : Base) (i : Index) (c : Scale) (d : ℕ)
+pub parts : (x : Instruction) (code : List ℕ) (f : Prefix) (m s k n u : ℕ) (b : Base) (i : Index) (d : ℕ)
     → f ≡ prefixIn code → m ≡ getD code (f .size + 1) 0 → s ≡ getD code (f .size + 2) 0 → n ≡ displacementSize m s
-    → u ≡ unitOf (x .encoding) (x .broadcast) (x .element) (x .width) → k ≡ sibSize m → b ≡ baseOf f m s → i ≡ indexOf f m s → c ≡ scaleOf s
-    → d ≡ displacementOf n u code (f .size + 2 + k) → _≡_ {A = Operand} (record { base = b; index = i; scale = c; displacement = d }) (operandOf x code)
+    → u ≡ unitOf (x .encoding) (x .broadcast) (x .element) (x .width) → k ≡ sibSize m → b ≡ baseOf f m s → i ≡ indexOf f m s
+    → d ≡ displacementOf n u code (f .size + 2 + k) → _≡_ {A = Operand} (record { base = b; index = i; displacement = d }) (operandOf x code)
 unfolding operandOf
-parts x code f m s k n u b i c d pf pm ps pn pu pk pb pi pc pd = rw (← pf, ← pm, ← ps, ← pk, ← pn, ← pu, pb, pi, pc, pd)
+parts x code f m s k n u b i d pf pm ps pn pu pk pb pi pd = rw (← pf, ← pm, ← ps, ← pk, ← pn, ← pu, pb, pi, pd)
 
 -- ---- the answer
 

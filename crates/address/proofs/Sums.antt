@@ -8,7 +8,6 @@ use mir.Val.{Fits}
 use mir.Syntax.{w64}
 use borrow.Author.Tests.{lt-ltb, le-ltb}
 use Rattle.address.specs.Displacement.{wrapped, signedOf}
-use Rattle.address.specs.Operand.{factorOf}
 use Rattle.address.specs.Address.{baseValue, indexValue, sumOf}
 use Rattle.address.specs.declared.operand.Operand.{Operand}
 
@@ -34,6 +33,6 @@ module _ (values d unit : ℕ) where
       rw (le-ltb d (values / 2) p, sum) (omega (arith, rw all at whole))
 
 -- base, index times scale, and displacement
-pub summed : (o : Operand) (registers : List ℕ) (next a v x y r : ℕ) → a ≡ baseValue (o .base) registers next → v ≡ indexValue (o .index) registers
-    → x ≡ wrapped (v * factorOf (o .scale)) → y ≡ (a + x) % 2 ^ 64 → r ≡ (y + o .displacement) % 2 ^ 64 → r ≡ sumOf o registers next
-summed o registers next a v x y r pa pv px py pr = rw (← pa, ← pv) (omega arith)
+pub summed : (o : Operand) (registers : List ℕ) (next a x y r : ℕ) → a ≡ baseValue (o .base) registers next → x ≡ wrapped (indexValue (o .index) registers)
+    → y ≡ (a + x) % 2 ^ 64 → r ≡ (y + o .displacement) % 2 ^ 64 → r ≡ sumOf o registers next
+summed o registers next a x y r pa px py pr = rw (← pa) (omega arith)

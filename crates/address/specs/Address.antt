@@ -27,13 +27,13 @@ baseValue Base.Next registers next = next
 baseValue Base.Absent registers next = 0
 
 abbrev pub indexValue : Index → List ℕ → ℕ
-indexValue (Index.Register g) registers = valueIn registers g
+indexValue (Index.Register g scale) registers = valueIn registers g * factorOf scale
 indexValue Index.Absent registers = 0
 
--- rule 10.8: base, index times scale and displacement
+-- rule 10.8: base, index times scale, and displacement
 abbrev pub sumOf : Operand → List ℕ → ℕ → ℕ
 sumOf o registers next =
-    wrapped (baseValue (o .base) registers next + indexValue (o .index) registers * factorOf (o .scale) + o .displacement)
+    wrapped (baseValue (o .base) registers next + indexValue (o .index) registers + o .displacement)
 
 -- rule 10.1: a register form has no address. The next instruction begins behind this one, immediate and all
 abbrev pub locatedOf : Third → Operand → List ℕ → ℕ → Addressed

@@ -35,12 +35,6 @@ baseOf f m s =
     else if isNoBase m m then Base.Next
     else Base.Register (gprOf (f .b) m)
 
--- rule 10.4: X.index, where there is a SIB. Number 4, which would be rsp, is no index
-unfoldable pub indexOf : Prefix → ℕ → ℕ → Index
-indexOf f m s =
-    if eqb (m % 8) 4 then (if eqb (gprOf (f .x) (s / 8) .0) 4 then Index.Absent else Index.Register (gprOf (f .x) (s / 8)))
-    else Index.Absent
-
 -- rule 10.5: SIB bits 7:6 are the scale
 unfoldable pub scaleOf : ℕ → Scale
 scaleOf s = if eqb (s / 64) 0 then Scale.One else if eqb (s / 64) 1 then Scale.Two else if eqb (s / 64) 2 then Scale.Four else Scale.Eight
@@ -51,6 +45,12 @@ factorOf Scale.Two = 2
 factorOf Scale.Four = 4
 factorOf Scale.Eight = 8
 
+-- rule 10.4: X.index, where there is a SIB. Number 4, which would be rsp, is no index
+unfoldable pub indexOf : Prefix → ℕ → ℕ → Index
+indexOf f m s =
+    if eqb (m % 8) 4 then (if eqb (gprOf (f .x) (s / 8) .0) 4 then Index.Absent else Index.Register (gprOf (f .x) (s / 8)) (scaleOf s))
+    else Index.Absent
+
 -- the parts together. The displacement stands behind ModRM and SIB
 unfoldable pub operandOf : Instruction → List ℕ → Operand
 operandOf x code =
@@ -60,6 +60,5 @@ operandOf x code =
     record {
       base = baseOf f m s;
       index = indexOf f m s;
-      scale = scaleOf s;
       displacement = displacementOf (displacementSize m s) (unitOf (x .encoding) (x .broadcast) (x .element) (x .width)) code (f .size + 2 + sibSize m);
     }

@@ -1,7 +1,7 @@
 // The address of an instruction's memory operand.
 ghost use mathlib.Core.Path.{_≡_};
-ghost use Rattle.address.specs.Operand.{operandOf};
-ghost use Rattle.address.specs.Address.{baseValue, indexValue, sumOf, locatedOf, onDecoded, addressOf};
+ghost use Rattle.address.specs.Displacement.{wrapped};
+ghost use Rattle.address.specs.Address.{baseValue, indexValue, sumOf, onDecoded, addressOf};
 ghost use Rattle.decode.specs.declared.instruction.Decoded.{Decoded};
 
 pub mod displacement;
@@ -35,10 +35,10 @@ fn base_value(base: Base, registers: &[u64], next: u64) -> u64
 }
 
 fn index_value(index: Index, registers: &[u64]) -> u64
-    ensures { λ r. ⌜ r ≡ indexValue index (now (registers .entry)) ⌝ }
+    ensures { λ r. ⌜ r ≡ wrapped (indexValue index (now (registers .entry))) ⌝ }
 {
     match index {
-        Index::Register(register) => register.value(registers),
+        Index::Register(register, scale) => scale.times(register.value(registers)),
         Index::Absent => 0,
     }
 }
@@ -49,10 +49,8 @@ fn sum(operand: Operand, registers: &[u64], next: u64) -> u64
 {
     let base = operand.base;
     let index = operand.index;
-    let scale = operand.scale;
     let start = base_value(base, registers, next);
-    let scaled = scale.times(index_value(index, registers));
-    let place = std::num::wrapping_add_u64(start, scaled);
+    let place = std::num::wrapping_add_u64(start, index_value(index, registers));
     std::num::wrapping_add_u64(place, operand.displacement)
 }
 

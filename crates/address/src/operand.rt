@@ -51,11 +51,6 @@ pub enum Base {
     Absent,
 }
 
-pub enum Index {
-    Register(Gpr),
-    Absent,
-}
-
 pub enum Scale {
     One,
     Two,
@@ -93,10 +88,14 @@ impl Scale {
     }
 }
 
+pub enum Index {
+    Register(Gpr, Scale),
+    Absent,
+}
+
 pub struct Operand {
     pub base: Base,
     pub index: Index,
-    pub scale: Scale,
     // Modulo 2^64, and multiplied.
     pub displacement: u64,
 }
@@ -138,7 +137,7 @@ fn index_of(prefix: Prefix, modrm: u8, sib: u8) -> Index
     if index.number() == 4 {
         return Index::Absent;
     }
-    Index::Register(index)
+    Index::Register(index, Scale::of(sib))
 }
 
 fn prefix_in(code: &[u8]) -> Prefix
@@ -168,7 +167,6 @@ pub fn read(i: Instruction, code: &[u8]) -> Operand
     Operand {
         base: base_of(prefix, modrm, sib),
         index: index_of(prefix, modrm, sib),
-        scale: Scale::of(sib),
         displacement: displacement::read(size, unit, code, place),
     }
 }

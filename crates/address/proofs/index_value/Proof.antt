@@ -1,5 +1,5 @@
 use borrow.Author.Needs.{needs}
-use Rattle.address.proofs.Compose.{of-index}
+use Rattle.address.proofs.Compose.{of-index, of-none}
 use Rattle.address.proofs.index_value.Statement.{statement}
 use Rattle.address.proofs.index_value.Tie as tie
 
@@ -9,6 +9,7 @@ index-value-spec =
     (tie.spec
     (λ c. search needs)
     (λ c κs. search needs)
+    (λ c κs. search needs)
     (λ c. search needs)
-    (λ c. search (needs, of-index) depth 12)
-    (λ c. search (needs, of-index) depth 12))
+    (λ c. search (needs, of-index, of-none) depth 12)
+    (λ c. search (needs, of-index, of-none) depth 12))

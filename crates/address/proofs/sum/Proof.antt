@@ -11,5 +11,4 @@ sum-spec =
     (λ c κs. search needs)
     (λ c κs. search needs)
     (λ c κs. search needs)
-    (λ c κs. search needs)
     (λ c. search (needs, summed) depth 12))

@@ -14,4 +14,5 @@ index-of-spec =
     (λ c κs. search needs)
     (λ c κs. search needs)
     (λ c. search (needs, no-index) depth 12)
+    (λ c κs. search needs)
     (λ c. search (needs, an-index) depth 12))
