@@ -26,8 +26,8 @@
 static const uint8_t list[] = {UNPACK, SHUFFLE};
 static const uint8_t list_twice[] = {UNPACK, SHUFFLE, UNPACK, SHUFFLE};
 
-/* vpshufd zmm1{k1}, dword ptr [mem]{1to16}, 0x1b */
-static const uint8_t broadcast[] = {0x62, 0xF1, 0x7D, 0x59, 0x70, 0x08, 0x1B};
+/* vpshufd zmm1{k1}, dword ptr [rbx + r12*4 - 8]{1to16}, 0x1b */
+static const uint8_t broadcast[] = {0x62, 0xB1, 0x7D, 0x59, 0x70, 0x4C, 0xA3, 0xFE, 0x1B};
 
 /* The shuffle with vvvv in use, although it has no first source: #UD */
 static const uint8_t undefined[] = {0xC5, 0xE9, 0x70, 0xC9, 0x1B};
@@ -35,6 +35,12 @@ static const uint8_t undefined[] = {0xC5, 0xE9, 0x70, 0xC9, 0x1B};
 /* The guest's registers: byte i of register r is file[64 * r + i]. */
 static uint8_t file[TARHUSPO_FILE_SIZE];
 static uint64_t masks[TARHUSPO_MASK_COUNT];
+/* Its general registers: rax, rcx, rdx, rbx, rsp, rbp, rsi, rdi, r8 to r15. */
+static uint64_t general[TARHUSPO_GPR_COUNT];
+
+/* The guest's memory, which is at this address for the guest. */
+#define GUEST_START UINT64_C(0x40000000)
+static uint8_t guest[4096];
 
 /* Ends the program if a call was refused that should not be. */
 static void check(const char *what, uint32_t status)
@@ -53,12 +59,16 @@ static void expect(const char *what, int holds)
     }
 }
 
-static void fill_registers(void)
+static void fill_guest(void)
 {
     size_t i;
 
     for (i = 0; i < sizeof file; i++)
         file[i] = (uint8_t)(i + i / 64);
+    for (i = 0; i < sizeof guest; i++)
+        guest[i] = (uint8_t)(i + 0x80);
+    general[3] = GUEST_START + 16; /* rbx */
+    general[12] = 6;               /* r12 */
 }
 
 /* Decoding tells the length, the operands and how much memory is wanted. */
@@ -86,10 +96,28 @@ static void refuse(void)
            d.reason);
 }
 
-/* A step gets exactly the memory that decoding named, and is refused otherwise. */
-static void step(uint32_t wanted)
+/* A trap handler finds the memory operand by its address. rip is where the instruction stands. */
+static const uint8_t *find(uint32_t wanted, uint64_t rip)
 {
-    const uint8_t memory[64] = {0xA0, 0xA1, 0xA2, 0xA3};
+    tarhuspo_addressed a = tarhuspo_address(broadcast, sizeof broadcast, FEATURES, general,
+                                            TARHUSPO_GPR_COUNT, rip);
+    tarhuspo_addressed none = tarhuspo_address(list, sizeof list, FEATURES, general,
+                                               TARHUSPO_GPR_COUNT, rip);
+    uint64_t place = a.address - GUEST_START;
+
+    check("address", a.status);
+    expect("a memory form has an address", a.has_address == 1);
+    expect("a register form has none", none.status == 0 && none.has_address == 0);
+    /* Where the guest has no such memory, the handler raises a page fault instead. */
+    expect("the operand is in memory", place < sizeof guest && wanted <= sizeof guest - place);
+    printf("address: %" PRIX64 ", with %02X %02X there\n", a.address, guest[place],
+           guest[place + 1]);
+    return guest + place;
+}
+
+/* A step gets exactly the memory that decoding named, and is refused otherwise. */
+static void step(const uint8_t *memory, uint32_t wanted)
+{
     tarhuspo_stepped s;
 
     masks[1] = 0x2; /* element 1 alone is written */
@@ -99,7 +127,7 @@ static void step(uint32_t wanted)
     printf("step: %" PRIu32 " bytes, register 1 has %02X %02X %02X from byte 3 on\n", s.length,
            file[67], file[68], file[69]);
     s = tarhuspo_step(broadcast, sizeof broadcast, file, sizeof file, masks, TARHUSPO_MASK_COUNT,
-                      FEATURES, memory, sizeof memory);
+                      FEATURES, memory, 64);
     printf("      with 64 bytes of memory: status %" PRIu32 "\n", s.status);
 }
 
@@ -166,8 +194,8 @@ int main(void)
     uint32_t wanted = decode();
 
     refuse();
-    fill_registers();
-    step(wanted);
+    fill_guest();
+    step(find(wanted, UINT64_C(0x401000)), wanted);
     run();
     maps();
     listing();

@@ -7,8 +7,9 @@
  * Symbols that it takes from outside: memcpy.
  *
  * For every caller:
- *  - Each _len counts elements of its pointer's type: bytes for uint8_t, masks for uint64_t, map
- *    entries for uint16_t. It never counts bits, nor the bytes that masks or entries take.
+ *  - Each _len counts elements of its pointer's type: bytes for uint8_t, masks or registers for
+ *    uint64_t, map entries for uint16_t. It never counts bits, nor the bytes that masks, registers
+ *    or entries take.
  *  - A pointer must not be null, also where its length is 0, must be aligned for its type, and must
  *    be valid for that length.
  *  - A buffer that a call writes to must not overlap another one of that call. Those that are only
@@ -33,7 +34,7 @@ extern "C" {
  * function, a constant, an instruction that status 3 refused before.
  */
 #define TARHUSPO_VERSION_MAJOR 3
-#define TARHUSPO_VERSION_MINOR 0
+#define TARHUSPO_VERSION_MINOR 1
 
 /* Processor features: add those that the processor has. */
 #define TARHUSPO_AVX UINT32_C(1)
@@ -60,9 +61,10 @@ extern "C" {
 /* z is 0 without an opmask (aaa 000b). */
 #define TARHUSPO_REASON_Z UINT32_C(6)
 
-/* Sizes: bytes of the register file, the number of opmasks, and entries of a byte map. */
+/* Sizes: bytes of the register file, opmasks, general registers, and entries of a byte map. */
 #define TARHUSPO_FILE_SIZE 2048
 #define TARHUSPO_MASK_COUNT 8
+#define TARHUSPO_GPR_COUNT 16
 #define TARHUSPO_MAP_SIZE 2048
 /* The entry of a byte map that stands for a zero byte. */
 #define TARHUSPO_MAP_ZERO 2048
@@ -119,6 +121,47 @@ typedef struct {
 tarhuspo_decoded tarhuspo_decode(const uint8_t *code, size_t code_len, uint32_t features);
 
 /*
+ * Where a memory operand is.
+ *
+ * status is 0 if the instruction is accepted. Otherwise it says what is wrong, and every other
+ * field is 0, but for the reason of a 4. The first of these that applies is given:
+ *
+ *  1  registers_len is not 16, or features is over 63.
+ *  2 to 5  The instruction is not accepted: as tarhuspo_decode, in its order and with its reason.
+ */
+typedef struct {
+    uint64_t address;     /* address of the operand's first byte, 0 for a register form */
+    uint32_t status;      /* 0 accepted, or 1 to 5 as above */
+    uint32_t reason;      /* with status 4 a TARHUSPO_REASON_ number, else 0 */
+    uint32_t has_address; /* 1 for a memory form, 0 for a register form */
+} tarhuspo_addressed;
+
+/*
+ * Gives the address of the memory operand of the instruction at the start of code. How many bytes
+ * the operand has is what tarhuspo_decode gives as memory.
+ *
+ * registers are the 16 general registers, in the order of their numbers: rax, rcx, rdx, rbx, rsp,
+ * rbp, rsi, rdi, r8 to r15. instruction_address is where the instruction itself stands.
+ *
+ * The address is base + scale * index + displacement, modulo 2^64, of which the encoding has:
+ *
+ *  - As base the register B.r/m, or B.base with a SIB byte. Mod 0 with r/m 5 has the address of the
+ *    next instruction instead (instruction_address and the length, immediate included), and mod 0
+ *    with SIB base 5 has no base, whatever B is.
+ *  - With a SIB byte, as index the register X.index, but none if that is 4. So index 4 with X 1 is
+ *    r12. X and B are written inverted in the prefix, and are 0 if that is C5.
+ *  - A signed displacement of 1 or 4 bytes, or none. Under EVEX one of 1 byte is multiplied by the
+ *    bytes of the vector (16, 32 or 64), or with a broadcast by those of the element (4 or 8): at
+ *    512 bits FF is -64. VEX does not multiply, and 4 bytes are never multiplied.
+ *
+ * Left out are segment bases, the address-size prefix 67, and whether the address is canonical. The
+ * memory itself is not read. Writes to no memory but the result.
+ */
+tarhuspo_addressed tarhuspo_address(const uint8_t *code, size_t code_len, uint32_t features,
+                                    const uint64_t *registers, size_t registers_len,
+                                    uint64_t instruction_address);
+
+/*
  * The result of a step.
  *
  * status is 0 if the instruction was carried out. Otherwise it says what is wrong, and length is 0.
@@ -142,7 +185,8 @@ typedef struct {
  * Byte i of register r is file[64 * r + i], lowest byte first. masks[k] is opmask k: its bit j is
  * for element j, and bits past the last element do not count. Nor does masks[0], because opmask 0
  * stands for no masking. All sources are read before the destination is written, so they may be
- * the same register.
+ * the same register. memory has the bytes of the memory operand, and no other memory is read: where
+ * the operand is for the instruction, tarhuspo_address tells.
  *
  * If status is 0, the 64 bytes of the destination register are changed and no others: elements
  * that the opmask lets through get their new value, the others are kept or zeroed, and bytes above

@@ -2,3 +2,4 @@
 mod Sums
 mod Compose
 pub mod Laws
+pub mod Bytes

@@ -23,7 +23,8 @@ pub fn unit_of(encoding: Encoding, broadcast: bool, element: Element, width: Wid
     }
 }
 
-// Of so many values the upper half is negative. Multiplied before it is taken away, what makes it negative still fits.
+// One of so many values, of which the upper half is negative, times a unit. Both products fit, so that only their
+// difference wraps.
 fn signed(values: u64, d: u32, unit: u8) -> u64
     requires { ⌜ values ≤ 4294967296 ⌝ }
     ensures { λ r. ⌜ r ≡ wrapped (signedOf values d * unit) ⌝ }

@@ -11,7 +11,7 @@ use Rattle.seq.proofs.Choice.{took-first, took-second, of-either}
 use Rattle.isa.specs.Features.{featuresKnown}
 use Rattle.isa.specs.Refusal.{statusOf, fieldNumber}
 use Rattle.isa.specs.Table.{rows, findIn}
-use Rattle.isa.proofs.Reasons.{field-range}
+use Rattle.isa.proofs.Reasons.{field-range, not-field}
 use Rattle.isa.specs.declared.refusal.Field.{Field}
 use Rattle.isa.specs.declared.refusal.Field.the-variants.{FixedBits, W, Width, Vvvv, Broadcast, Zeroing}
 use Rattle.isa.specs.declared.refusal.Refusal.{Refusal}
@@ -121,10 +121,10 @@ not-accepted : (field : Field) (x : Instruction) → NotFor field (Accepted x)
 not-accepted field x e = let z : _≡_ {A = ℕ} 0 1 = cc in omega arith
 
 not-other : (field : Field) (why : Refusal) → (statusOf why ≡ 4 → ⊥) → NotFor field (Refused why)
-not-other field why nay e = let z : why ≡ Reserved field = cc in nay (ap statusOf z)
+not-other field why nay e = not-field field why nay cc
 
 not-head : (field : Field) (why : Refusal) → (statusOf why ≡ 4 → ⊥) → Head.Refused why ≡ Head.Refused (Reserved field) → ⊥
-not-head field why nay e = let z : why ≡ Reserved field = cc in nay (ap statusOf z)
+not-head field why nay e = not-field field why nay cc
 
 not-got : (why : Refusal) (f : Prefix) → Head.Got f ≡ Head.Refused why → ⊥
 not-got why f e = let z : _≡_ {A = ℕ} 0 1 = cc in omega arith

@@ -1,6 +1,6 @@
 -- Rule 5.11 (request 3): answer 4 has a reason from 1 to 6, and no other answer has one.
 use Prim.Native.Nat.{ℕ, _≤_}
-use mathlib.Core.Path.{_≡_, refl}
+use mathlib.Core.Path.{_≡_, refl, ap}
 use native.Mathlib.Omega.{arith}
 use Rattle.isa.specs.Refusal.{statusOf, fieldNumber, reasonOf}
 use Rattle.isa.specs.declared.refusal.Field.{Field}
@@ -31,6 +31,10 @@ why-is MemoryLength = for-other (λ e. omega arith) refl
 why-is Unmappable = for-other (λ e. omega arith) refl
 why-is TooLong = for-other (λ e. omega arith) refl
 why-is BadEntry = for-other (λ e. omega arith) refl
+
+-- one with another number is for none
+pub not-field : (f : Field) (why : Refusal) → (statusOf why ≡ 4 → ⊥) → why ≡ Reserved f → ⊥
+not-field f why nay e = nay (ap statusOf e)
 
 -- a status and the reason that may come with it
 pub record Reasoned (status reason : ℕ) : Type 0 where

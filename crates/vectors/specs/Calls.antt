@@ -10,8 +10,10 @@ use Rattle.run.specs.Run.{runOf, fileAfterRun}
 use Rattle.bytemap.specs.Build.{buildOf, mapBuilt}
 use Rattle.bytemap.specs.ByteMap.{applyOf, fileApplied, composeOf, mapComposed}
 use Rattle.listing.specs.Listing.{listingOf, textAfter}
+use Rattle.address.specs.Address.{addressOf}
 use Rattle.tarhuspo.specs.Decoded.{decodedOf}
 use Rattle.tarhuspo.specs.Stepped.{steppedOf}
+use Rattle.tarhuspo.specs.Addressed.{addressedOf}
 use Rattle.tarhuspo.specs.Lists.{answerStatus, ranOf, builtOf, listedOf}
 use Rattle.tarhuspo.specs.declared.TarhuspoDecoded.{TarhuspoDecoded}
 use Rattle.vectors.specs.Number.{byteAt, numberAt}
@@ -20,7 +22,7 @@ use Rattle.vectors.specs.Digest.{digestOf}
 use Rattle.vectors.specs.declared.digest.Digest.{Digest}
 use Rattle.vectors.specs.declared.calls.Entry.{Entry}
 use Rattle.vectors.specs.declared.calls.Line.{Line}
-use Rattle.vectors.specs.declared.calls.Line.the-variants.{Malformed, Status, OneMore, TwoMore, ThreeMore}
+use Rattle.vectors.specs.declared.calls.Line.the-variants.{Malformed, Status, OneMore, TwoMore, ThreeMore, Undigested}
 
 -- ---- decode: the digest is of the result's fields, in order
 
@@ -138,6 +140,12 @@ module _ (r code pools : List ℕ) where
       (textAfter code)
       size (bytesFrom pools (numberAt 2 r 0) textRoom))
 
+  -- request 4: the general registers are a part of the pool of masks; nothing is written, so there is no digest
+  abbrev pub addressLine : Line
+  addressLine =
+      let a = addressedOf (addressOf code (numberAt 4 r 0) (masksAt r pools 12) (numberAt 8 r 4)) in
+      atMost masksRoom (byteAt r 13) (Undigested (a .status) (a .reason) (a .«has_address») (a .address))
+
 abbrev pub lineOf : Entry → List ℕ → List ℕ → List ℕ → Line
 lineOf Entry.Decode r code pools = decodeLine r code
 lineOf Entry.Step r code pools = stepLine r code pools
@@ -146,3 +154,4 @@ lineOf Entry.Build r code pools = buildLine r code pools
 lineOf Entry.Apply r code pools = applyLine r pools
 lineOf Entry.Compose r code pools = composeLine r pools
 lineOf Entry.Listing r code pools = listingLine r code pools
+lineOf Entry.Address r code pools = addressLine r code pools

@@ -33,7 +33,7 @@ abbrev pub textRoom : ℕ
 textRoom = 28160
 
 abbrev pub masksRoom : ℕ
-masksRoom = 16
+masksRoom = 24
 
 abbrev pub memoryRoom : ℕ
 memoryRoom = 256

@@ -2,7 +2,7 @@
 ghost use Prim.Native.Nat.{_≤_};
 ghost use mathlib.Core.Path.{_≡_};
 ghost use Rattle.vectors.specs.Digest.{digestOf};
-ghost use Rattle.vectors.specs.Calls.{mapAt, decodeLine, stepLine, runLine, buildLine, applyLine, composeLine, listingLine, lineOf};
+ghost use Rattle.vectors.specs.Calls.{mapAt, decodeLine, stepLine, runLine, buildLine, applyLine, composeLine, listingLine, addressLine, lineOf};
 use crate::digest;
 use crate::digest::Digest;
 use crate::number::u16_at;
@@ -32,6 +32,7 @@ pub enum Entry {
     Apply,
     Compose,
     Listing,
+    Address,
 }
 
 // What is written for an input: the status, further numbers and the digest.
@@ -42,6 +43,8 @@ pub enum Line {
     OneMore(u32, u64, Digest),
     TwoMore(u32, u64, u64, Digest),
     ThreeMore(u32, u64, u64, u64, Digest),
+    // No buffer is written, so there is nothing to digest.
+    Undigested(u32, u64, u64, u64),
 }
 
 fn file_digest(file: &[u8; ROOM]) -> Digest
@@ -259,6 +262,24 @@ fn listing(fields: &[u8], code: &[u8], pools: &[u8; pools::SIZE]) -> Line
     Line::OneMore(listed.status, listed.written, text_digest(&text))
 }
 
+// Record: features u32, instruction's address u64; general registers: start u8, count u8, from the pool of masks.
+fn address(fields: &[u8], code: &[u8], pools: &[u8; pools::SIZE]) -> Line
+    ensures { λ r. ⌜ r ≡ addressLine (now (fields .entry)) (now (code .entry)) (now (pools .entry)) ⌝ }
+{
+    let count = byte_at(fields, 13) as usize;
+    if count > MASKS_ROOM {
+        return Line::Malformed;
+    }
+    let registers = pools::masks(pools, byte_at(fields, 12));
+    let a = tarhuspo::tarhuspo_address(
+        code,
+        u32_at(fields, 0),
+        &registers[..count],
+        u64_at(fields, 4),
+    );
+    Line::Undigested(a.status, a.reason as u64, a.has_address as u64, a.address)
+}
+
 // What is written for an input of an entry point.
 pub fn call(entry: Entry, fields: &[u8], code: &[u8], pools: &[u8; pools::SIZE]) -> Line
     ensures { λ r. ⌜ r ≡ lineOf entry (now (fields .entry)) (now (code .entry)) (now (pools .entry)) ⌝ }
@@ -271,5 +292,6 @@ pub fn call(entry: Entry, fields: &[u8], code: &[u8], pools: &[u8; pools::SIZE])
         Entry::Apply => apply(fields, pools),
         Entry::Compose => compose(fields, pools),
         Entry::Listing => listing(fields, code, pools),
+        Entry::Address => address(fields, code, pools),
     }
 }

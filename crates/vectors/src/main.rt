@@ -68,6 +68,13 @@ fn print_line(line: Line) -> bool {
             print_number(third);
             print_digest(digest);
         }
+        Line::Undigested(status, first, second, third) => {
+            print_number(status as u64);
+            print_number(first);
+            print_number(second);
+            io::print_hex(STDOUT_FILENO, third, 1);
+            print(b"\n");
+        }
     }
     true
 }
@@ -90,6 +97,7 @@ fn record_size(entry: Entry) -> usize {
         Entry::Apply => 12,
         Entry::Compose => 20,
         Entry::Listing => 4,
+        Entry::Address => 14,
     }
 }
 
@@ -102,6 +110,7 @@ fn code_of(entry: Entry) -> Code {
         Entry::Apply => Code::Absent,
         Entry::Compose => Code::Absent,
         Entry::Listing => Code::Listed,
+        Entry::Address => Code::Beside,
     }
 }
 
@@ -220,4 +229,5 @@ fn main() {
     section(Entry::Apply, b"apply", &pools);
     section(Entry::Compose, b"compose", &pools);
     section(Entry::Listing, b"listing", &pools);
+    section(Entry::Address, b"address", &pools);
 }

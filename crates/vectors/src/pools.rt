@@ -23,7 +23,7 @@ pub const ROOM: usize = 2560;
 
 pub const TEXT_ROOM: usize = 28160;
 
-pub const MASKS_ROOM: usize = 16;
+pub const MASKS_ROOM: usize = 24;
 
 const MEMORY_ROOM: usize = 256;
 

@@ -5,6 +5,7 @@ use crate::compare::Comparison;
 use crate::detect::Capabilities;
 use crate::difference::{Difference, Finding};
 use crate::engine::Engine;
+use crate::lead::Lead;
 use crate::processor::Processor;
 use crate::report::{Report, Skipped};
 use std::fmt;
@@ -92,10 +93,11 @@ pub fn audit_watched(
         let case = plan.case(options.seed, options.first_case.wrapping_add(count));
         let findings = comparison.check(engine, &case);
         if !findings.is_empty() {
-            let difference = difference(engine, options.seed, case, findings);
+            let lead = comparison.lead().cloned();
+            let difference = difference(engine, options.seed, case, lead, findings);
             return Err(Failure::Difference(Box::new(difference)));
         }
-        report.count(&case, comparison.is_b_ignored(&case));
+        report.count(&case, comparison.is_b_ignored(&case), comparison.lead());
         count += 1;
         watch(Progress {
             instructions: count,
@@ -120,7 +122,13 @@ fn is_over(limit: Limit, count: u64, start: Instant) -> bool {
     }
 }
 
-fn difference(engine: &dyn Engine, seed: u64, case: Case, findings: Vec<Finding>) -> Difference {
+fn difference(
+    engine: &dyn Engine,
+    seed: u64,
+    case: Case,
+    lead: Option<Lead>,
+    findings: Vec<Finding>,
+) -> Difference {
     Difference {
         engine: engine.name().to_string(),
         seed,
@@ -132,6 +140,7 @@ fn difference(engine: &dyn Engine, seed: u64, case: Case, findings: Vec<Finding>
         features: case.features,
         memory: case.memory,
         state: case.state,
+        lead,
         findings,
     }
 }

@@ -4,6 +4,7 @@ use crate::damage::{applies, damage, FIELDS};
 use crate::detect::{feature_names, Capabilities, RegisterSet};
 use crate::encoding::{Fields, Third};
 use crate::random::Random;
+use crate::setting::Setting;
 use crate::shape::{Form, Shape};
 use crate::state::State;
 use reference::limits::feature;
@@ -23,14 +24,10 @@ pub struct Case {
     pub features: u32,
     pub state: State,
     pub memory: Vec<u8>,
+    pub setting: Setting,
 }
 
 impl Case {
-    /// What the engine gets to decode.
-    pub fn engine_code(&self) -> Vec<u8> {
-        [self.code.as_slice(), self.trailing.as_slice()].concat()
-    }
-
     /// Whether b is wrong only because the third operand is a register: with memory the row has a
     /// broadcast.
     pub fn has_b_with_register(&self) -> bool {
@@ -131,6 +128,7 @@ impl Plan {
             features,
             state: random_state(&mut random),
             memory: random.bytes(shape.memory()),
+            setting: Setting::random(&mut random),
         }
     }
 }

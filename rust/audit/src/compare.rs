@@ -4,14 +4,15 @@ use crate::case::Case;
 use crate::damage::reason;
 use crate::detect::RegisterSet;
 use crate::difference::Finding;
-use crate::engine::{Answer, Engine};
+use crate::engine::{Addressed, Answer, Engine};
 use crate::guarded::Guarded;
-use crate::processor::{Outcome, Processor};
+use crate::lead::{Expected, Lead};
+use crate::processor::{Outcome, Prepared, Processor};
 use crate::state::{State, FILE_SIZE, MASKS, REGISTER_SIZE};
 use reference::limits::feature;
 
 const FILL: u8 = 0xA5;
-const FILL_MASK: u64 = 0xA5A5_A5A5_A5A5_A5A5;
+const FILL_WORD: u64 = 0xA5A5_A5A5_A5A5_A5A5;
 
 /// VPSHUFD zmm1, zmm2 with b set.
 const B_WITH_REGISTER: [u8; 7] = [0x62, 0xF1, 0x7D, 0x58, 0x70, 0xCA, 0x1B];
@@ -23,9 +24,12 @@ pub struct Comparison {
     /// 1. Some processors ignore b there.
     ignores_b: bool,
     code: Guarded<u8>,
+    general: Guarded<u64>,
     file: Guarded<u8>,
     masks: Guarded<u64>,
     memory: Guarded<u8>,
+    /// How the last case was led to its memory operand.
+    lead: Option<Lead>,
 }
 
 impl Comparison {
@@ -39,9 +43,11 @@ impl Comparison {
             processor,
             ignores_b,
             code: Guarded::new(FILL),
+            general: Guarded::new(FILL_WORD),
             file: Guarded::new(FILL),
-            masks: Guarded::new(FILL_MASK),
+            masks: Guarded::new(FILL_WORD),
             memory: Guarded::new(FILL),
+            lead: None,
         }
     }
 
@@ -50,24 +56,59 @@ impl Comparison {
         self.ignores_b && case.has_b_with_register()
     }
 
+    /// How the last case was led to its memory operand; nothing if it was not run.
+    pub fn lead(&self) -> Option<&Lead> {
+        self.lead.as_ref()
+    }
+
     /// Everything that is not as it should be.
     pub fn check(&mut self, engine: &mut dyn Engine, case: &Case) -> Vec<Finding> {
+        self.lead = None;
         if !is_read_alike(case) {
             return vec![Finding::Encoding];
         }
-        let mut findings = Vec::new();
-        let outcome = self.processor.run(&case.code, &case.state, &case.memory);
+        match self.prepare(case) {
+            Ok(prepared) => self.check_prepared(engine, case, &prepared),
+            Err(reason) => {
+                let expected = self.expected_outcome(case);
+                let found = Outcome::NotRun(reason);
+                vec![Finding::Processor { expected, found }]
+            }
+        }
+    }
+
+    fn check_prepared(
+        &mut self,
+        engine: &mut dyn Engine,
+        case: &Case,
+        prepared: &Prepared,
+    ) -> Vec<Finding> {
+        let addressed = self.address(engine, case, prepared);
         let answer = self.step(engine, case);
+        let mut findings = Vec::from_iter(self.compare_address(case, prepared, addressed));
+        // If the engine names a place in the page, it is for the processor to find the operand.
+        let place = match findings[..] {
+            [] if addressed.has_address => addressed.address,
+            _ => prepared.target(),
+        };
+        let (state, memory) = (&case.state, &case.memory);
+        let outcome = self.processor.execute(prepared, state, memory, place);
         findings.extend(compare_outcome(self.expected_outcome(case), outcome));
         findings.extend(compare_answer(case, answer));
         findings.extend(self.compare_registers(case));
         findings.extend(self.compare_masks(case));
         findings.extend(self.written_by_processor());
-        findings.extend(self.written_by_engine(case));
+        findings.extend(self.written_by_engine(case, prepared));
         if self.is_b_ignored(case) {
             findings.extend(self.compare_without_b(case));
         }
+        self.lead = Some(lead(prepared, addressed));
         findings
+    }
+
+    fn prepare(&self, case: &Case) -> Result<Prepared, &'static str> {
+        let length = case.memory.len();
+        self.processor.prepare(&case.code, length, &case.setting)
     }
 
     /// The processor carries out an accepted instruction, of exactly these bytes, or raises #UD.
@@ -89,8 +130,41 @@ impl Comparison {
         (!is_same).then_some(Finding::NotIgnored)
     }
 
+    /// Asks for the address of what the processor is going to run.
+    fn address(&mut self, engine: &mut dyn Engine, case: &Case, prepared: &Prepared) -> Addressed {
+        self.code.set(&engine_code(case, prepared));
+        self.general.set(prepared.general());
+        engine.address(
+            self.code.content(),
+            case.features,
+            self.general.content(),
+            prepared.entry(),
+        )
+    }
+
+    /// Whether the engine says what it should of an address. Which place in the operand's page it
+    /// names is not looked at here.
+    fn compare_address(
+        &self,
+        case: &Case,
+        prepared: &Prepared,
+        found: Addressed,
+    ) -> Option<Finding> {
+        let expected = expected_address(case);
+        let length = case.memory.len();
+        let is_right = match expected {
+            Expected::Refusal { reason } => found == without_address(4, reason),
+            Expected::None => found == without_address(0, 0),
+            Expected::InPage => {
+                (found.status, found.reason, found.has_address) == (0, 0, true)
+                    && self.processor.holds(prepared, found.address, length)
+            }
+        };
+        (!is_right).then_some(Finding::Address { expected, found })
+    }
+
+    /// The code is what `address` has put there.
     fn step(&mut self, engine: &mut dyn Engine, case: &Case) -> Answer {
-        self.code.set(&case.engine_code());
         self.file.set(&case.state.file);
         self.masks.set(&case.state.masks);
         self.memory.set(&case.memory);
@@ -159,7 +233,7 @@ impl Comparison {
         let checks = [
             (
                 self.processor.is_memory_intact(),
-                "the memory operand or the bytes before it changed on the processor",
+                "the memory operand or the bytes around it changed on the processor",
             ),
             (
                 self.processor.is_context_intact(),
@@ -169,14 +243,16 @@ impl Comparison {
         failed(&checks)
     }
 
-    fn written_by_engine(&self, case: &Case) -> Vec<Finding> {
+    fn written_by_engine(&self, case: &Case, prepared: &Prepared) -> Vec<Finding> {
         let memory = self.memory.content() == case.memory;
         let masks = self.masks.content() == case.state.masks;
-        let code = self.code.content() == case.engine_code();
+        let code = self.code.content() == engine_code(case, prepared);
+        let general = self.general.content() == prepared.general();
         let checks = [
             (memory, "the engine wrote to the memory operand"),
             (masks, "the engine wrote to the opmasks"),
             (code, "the engine wrote to the code"),
+            (general, "the engine wrote to the general registers"),
             (
                 self.memory.is_intact(),
                 "the engine wrote beside the memory operand",
@@ -187,11 +263,31 @@ impl Comparison {
             ),
             (self.code.is_intact(), "the engine wrote beside the code"),
             (
+                self.general.is_intact(),
+                "the engine wrote beside the general registers",
+            ),
+            (
                 self.file.is_intact(),
                 "the engine wrote beside the register file",
             ),
         ];
         failed(&checks)
+    }
+}
+
+/// What the engine gets to decode: the bytes that are run, and a few behind them.
+fn engine_code(case: &Case, prepared: &Prepared) -> Vec<u8> {
+    [prepared.code(), &case.trailing].concat()
+}
+
+fn lead(prepared: &Prepared, engine: Addressed) -> Lead {
+    Lead {
+        code: prepared.code().to_vec(),
+        entry: prepared.entry(),
+        general: *prepared.general(),
+        operand: prepared.operand().copied(),
+        target: prepared.target(),
+        engine,
     }
 }
 
@@ -251,6 +347,26 @@ fn is_read_alike(case: &Case) -> bool {
 
 fn compare_outcome(expected: Outcome, found: Outcome) -> Option<Finding> {
     (found != expected).then_some(Finding::Processor { expected, found })
+}
+
+/// A damaged encoding has a refusal, and a register form no address.
+fn expected_address(case: &Case) -> Expected {
+    match case.damage {
+        Some(field) => Expected::Refusal {
+            reason: reason(field),
+        },
+        None if case.memory.is_empty() => Expected::None,
+        None => Expected::InPage,
+    }
+}
+
+fn without_address(status: u32, reason: u32) -> Addressed {
+    Addressed {
+        status,
+        reason,
+        has_address: false,
+        address: 0,
+    }
 }
 
 /// The engine answers 0 and the length, or 4, no length and the field that was damaged.
@@ -319,13 +435,15 @@ mod tests {
         let mut comparison = comparison();
         assert_eq!(comparison.check(&mut engine::reference(), case), []);
         spoil(&mut comparison);
-        comparison.written_by_engine(case)
+        let prepared = comparison.prepare(case).expect("as before");
+        comparison.written_by_engine(case, &prepared)
     }
 
     #[test]
     fn writes_to_what_is_only_read_are_found() {
         let Some(case) = case(false) else { return };
-        let spoils: [(&str, Spoil); 3] = [
+        let spoils: [(&str, Spoil); 4] = [
+            ("general", |c| c.general.content_mut()[15] ^= 1),
             ("memory", |c| c.memory.content_mut()[0] ^= 1),
             ("opmasks", |c| c.masks.content_mut()[7] ^= 1 << 63),
             ("code", |c| c.code.content_mut()[3] ^= 1),
@@ -342,7 +460,8 @@ mod tests {
     #[test]
     fn writes_beside_buffers_are_found() {
         let Some(case) = case(true) else { return };
-        let spoils: [Spoil; 4] = [
+        let spoils: [Spoil; 5] = [
+            |c| c.general.with_guards_mut()[64 + 16] ^= 1,
             |c| c.memory.with_guards_mut()[63] ^= 1,
             |c| c.file.with_guards_mut()[64 + 2_048] ^= 1,
             |c| c.code.with_guards_mut()[0] ^= 1,
@@ -396,6 +515,7 @@ mod tests {
     fn ignoring_b() -> engine::Function {
         engine::Function {
             name: "ignores b",
+            address: engine::reference().address,
             step: |code, file, masks, features, memory| {
                 let mut code = code.to_vec();
                 code[3] &= !0x10;

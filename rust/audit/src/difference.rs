@@ -1,6 +1,8 @@
 //! A case in which engine and processor differ.
 
 use crate::damage::{field_name, reason};
+use crate::engine::Addressed;
+use crate::lead::{Expected, Lead};
 use crate::processor::Outcome;
 use crate::shape::Form;
 use crate::state::{State, REGISTER_SIZE};
@@ -16,6 +18,11 @@ pub enum Finding {
     Processor { expected: Outcome, found: Outcome },
     /// The processor carried out what has b wrong, but not as with b 0.
     NotIgnored,
+    /// What the engine says of the memory operand's address.
+    Address {
+        expected: Expected,
+        found: Addressed,
+    },
     /// The engine's status.
     Status { expected: u32, found: u32 },
     /// The engine's length.
@@ -36,20 +43,18 @@ pub enum Finding {
     Written(&'static str),
 }
 
+const READ_DIFFERENTLY: &str = "generator and reference read the bytes differently: not run";
+
 impl fmt::Display for Finding {
     fn fmt(&self, f: &mut fmt::Formatter<'_>) -> fmt::Result {
         match self {
-            Finding::Encoding => {
-                write!(
-                    f,
-                    "generator and reference read the bytes differently: not run"
-                )
-            }
+            Finding::Encoding => f.write_str(READ_DIFFERENTLY),
             Finding::Processor { expected, found } => {
                 write!(f, "processor: {found}; expected: {expected}")
             }
-            Finding::NotIgnored => {
-                write!(f, "processor: b is neither #UD nor ignored here")
+            Finding::NotIgnored => f.write_str("processor: b is neither #UD nor ignored here"),
+            Finding::Address { expected, found } => {
+                write!(f, "engine: {found}; expected: {expected}")
             }
             Finding::Status { expected, found } => {
                 write!(f, "engine: status {found}; expected: status {expected}")
@@ -98,6 +103,8 @@ pub struct Difference {
     pub memory: Vec<u8>,
     /// Registers and opmasks before the instruction.
     pub state: State,
+    /// Nothing if the instruction was not run.
+    pub lead: Option<Lead>,
     pub findings: Vec<Finding>,
 }
 
@@ -128,22 +135,27 @@ impl fmt::Display for Difference {
             self.memory.len(),
             hex(&self.memory)
         )?;
-        for (number, mask) in self.state.masks.iter().enumerate() {
-            writeln!(f, "k{number}: {mask:016X}")?;
+        if let Some(lead) = &self.lead {
+            write!(f, "{lead}")?;
         }
-        let registers = self.state.file.chunks(REGISTER_SIZE).enumerate();
-        for (number, register) in registers {
-            writeln!(
-                f,
-                "register {number} before, byte 0 first: {}",
-                hex(register)
-            )?;
-        }
+        write_state(f, &self.state)?;
         write!(f, "repeat with: tarhuspo audit --seed {seed} --case {case}")
     }
 }
 
-fn hex(bytes: &[u8]) -> String {
+fn write_state(f: &mut fmt::Formatter<'_>, state: &State) -> fmt::Result {
+    for (number, mask) in state.masks.iter().enumerate() {
+        writeln!(f, "k{number}: {mask:016X}")?;
+    }
+    for (number, register) in state.file.chunks(REGISTER_SIZE).enumerate() {
+        let bytes = hex(register);
+        writeln!(f, "register {number} before, byte 0 first: {bytes}")?;
+    }
+    Ok(())
+}
+
+/// Bytes between spaces.
+pub fn hex(bytes: &[u8]) -> String {
     if bytes.is_empty() {
         return "none".to_string();
     }

@@ -154,31 +154,29 @@ impl Third {
 
     /// Any way to name memory: with or without base, index, displacement.
     fn random_memory(prefix: Prefix, random: &mut Random) -> Third {
-        let (mode, rm) = (random.below(3), random.below(8));
+        let mode = random.below(3);
+        // A SIB byte has the most ways.
+        let rm = match random.bit() {
+            1 => 4,
+            _ => often(5, random),
+        };
         let (x, b) = match prefix {
             Prefix::Vex2 => (0, 0),
             _ => (random.bit(), random.bit()),
         };
         let mut tail = Vec::new();
         let mut base = rm;
-        let mut is_base_indexed = false;
         if rm == 4 {
-            let sib = random.byte();
-            tail.push(sib);
-            base = sib & 7;
-            is_base_indexed = (x, sib >> 3 & 7) == (b, base);
+            let index = often(4, random);
+            base = often(5, random);
+            tail.push(random.below(4) << 6 | index << 3 | base);
         }
         let size = match (mode, base) {
             (0, 5) | (2, _) => 4,
             (1, _) => 1,
             _ => 0,
         };
-        let mut displacement = random.bytes(size);
-        if is_base_indexed && size > 0 {
-            // Twice the register plus an odd number is never the operand's address.
-            displacement[0] &= !1;
-        }
-        tail.extend(displacement);
+        tail.extend(random.bytes(size));
         Third::Memory {
             mode,
             rm,
@@ -186,6 +184,14 @@ impl Third {
             b,
             tail,
         }
+    }
+}
+
+/// A number of three bits that means something else than the others: it comes more often.
+fn often(number: u8, random: &mut Random) -> u8 {
+    match random.one_in(4) {
+        true => number,
+        false => random.below(8),
     }
 }
 

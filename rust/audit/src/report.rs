@@ -4,6 +4,8 @@ use crate::case::Case;
 use crate::damage::FIELDS;
 use crate::detect::Capabilities;
 use crate::encoding::Third;
+use crate::lead::Lead;
+use crate::operand::WAYS;
 use crate::shape::{Form, Operand};
 use crate::state::FILE_SIZE;
 use reference::Field;
@@ -104,6 +106,9 @@ pub struct Report {
     /// Of these, those that the processor carries out, because it ignores b.
     pub ignored: u64,
     pub coverage: Coverage,
+    /// Memory operands that were where the engine said, by the ways to name them. One operand is
+    /// named in several ways.
+    pub addresses: [(&'static str, u64); WAYS.len()],
     pub skipped: Vec<Skipped>,
     pub elapsed: Duration,
 }
@@ -118,17 +123,31 @@ impl Report {
             refused: FIELDS.map(|field| (field, 0)).into(),
             ignored: 0,
             coverage: Coverage::default(),
+            addresses: WAYS.map(|(name, _)| (name, 0)),
             skipped: Vec::new(),
             elapsed: Duration::ZERO,
         }
     }
 
-    pub(crate) fn count(&mut self, case: &Case, is_b_ignored: bool) {
+    pub(crate) fn count(&mut self, case: &Case, is_b_ignored: bool, lead: Option<&Lead>) {
         self.forms.entry(case.shape.form()).or_default().add(case);
         self.ignored += u64::from(is_b_ignored);
         match case.damage {
             Some(field) => *self.refused.entry(field).or_default() += 1,
-            None => self.coverage.add(case),
+            None => {
+                self.coverage.add(case);
+                self.count_address(lead);
+            }
+        }
+    }
+
+    fn count_address(&mut self, lead: Option<&Lead>) {
+        let Some((operand, address)) = lead.and_then(|lead| Some((lead.operand?, lead.target)))
+        else {
+            return;
+        };
+        for ((_, count), (_, is_so)) in self.addresses.iter_mut().zip(WAYS) {
+            *count += u64::from(is_so(&operand, address));
         }
     }
 
@@ -140,6 +159,12 @@ impl Report {
     /// Refused instructions compared.
     pub fn refused_cases(&self) -> u64 {
         self.refused.values().sum()
+    }
+
+    /// Accepted instructions whose memory operand was where the engine said.
+    pub fn memory_operands(&self) -> u64 {
+        let counts = self.forms.values();
+        counts.map(|count| count.memory + count.broadcast).sum()
     }
 
     /// Register bytes compared after each instruction.

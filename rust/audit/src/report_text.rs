@@ -20,6 +20,7 @@ impl Display for Report {
         write_forms(f, &self.forms)?;
         write_refused(f, &self.refused)?;
         write_coverage(f, &self.coverage)?;
+        write_addresses(f, self)?;
         let seconds = self.elapsed.as_secs_f64();
         let rate = (self.steps() + self.refused_cases()) as f64 / seconds.max(1e-9);
         writeln!(
@@ -152,5 +153,20 @@ fn write_coverage(f: &mut Formatter<'_>, coverage: &Coverage) -> Result {
         coverage.merging.len(),
         coverage.zeroing.len(),
         coverage.immediates.len()
+    )
+}
+
+/// Ways to name memory on one line.
+const WAYS_PER_LINE: usize = 4;
+
+fn write_addresses(f: &mut Formatter<'_>, report: &Report) -> Result {
+    let text = |(name, count): &(&str, u64)| format!("{name} {count}");
+    let ways: Vec<_> = report.addresses.iter().map(text).collect();
+    let lines: Vec<_> = ways.chunks(WAYS_PER_LINE).map(|w| w.join(", ")).collect();
+    writeln!(
+        f,
+        "memory operands that the processor read at the engine's address: {}; of these with\n  {}",
+        report.memory_operands(),
+        lines.join(",\n  ")
     )
 }

@@ -1,43 +1,15 @@
 //! Every engine passes the audit, and those that are wrong on purpose do not.
 
-use audit::{audit, engine, Answer, Capabilities, Difference, Engine, Failure, Finding, Form};
-use audit::{Limit, Options, RegisterSet, Report, Skipped};
+mod tools;
+
+use audit::{engine, Addressed, Answer, Capabilities, Engine, Finding, Form};
+use audit::{Options, Report, Skipped};
 use reference::limits::feature;
 use reference::{decode, Decoded, Field};
+use tools::{caught, has_all_registers, options, passed, ENOUGH};
 
-const SEED: u64 = 20_240_607;
-/// Each wrong engine must be caught within so many cases.
-const ENOUGH: u64 = 4_000;
 /// Names, each with its encodings and widths.
 const FORMS: usize = 44;
-
-fn options(steps: u64) -> Options {
-    Options::new(SEED, Limit::Steps(steps))
-}
-
-/// Whether the processor has all registers. If not, one line says so.
-fn has_all_registers() -> bool {
-    let has = Capabilities::detect().register_set() == Some(RegisterSet::Zmm32);
-    if !has {
-        println!("skipped: no AVX-512 on this machine");
-    }
-    has
-}
-
-fn passed(engine: &mut dyn Engine, options: Options) -> Report {
-    match audit(engine, options) {
-        Ok(report) => report,
-        Err(failure) => panic!("{failure}"),
-    }
-}
-
-fn caught(engine: &mut dyn Engine, options: Options) -> Difference {
-    match audit(engine, options) {
-        Err(Failure::Difference(difference)) => *difference,
-        Err(failure) => panic!("{failure}"),
-        Ok(report) => panic!("not caught: {report}"),
-    }
-}
 
 #[test]
 fn engines_agree_with_the_processor() {
@@ -73,6 +45,43 @@ fn check_coverage(report: &Report) {
         coverage.immediates.len(),
     ];
     assert_eq!(used, [32, 32, 32, 8, 7, 256]);
+    check_addresses(report);
+}
+
+/// Every way to name memory occurs, and every memory operand is named in some.
+fn check_addresses(report: &Report) {
+    let count = |name: &str| {
+        let mut ways = report.addresses.iter();
+        let way = ways.find(|(way, _)| *way == name);
+        way.expect("the name of a way to name memory").1
+    };
+    for (name, count) in report.addresses {
+        assert!(count > 0, "{name}");
+    }
+    let operands = report.memory_operands();
+    assert_eq!(
+        ["mod 0", "mod 1", "mod 2"].map(count).iter().sum::<u64>(),
+        operands
+    );
+    let parts = [
+        "base alone",
+        "base and index",
+        "index alone",
+        "rip-relative",
+        "absolute",
+    ];
+    assert_eq!(parts.map(count).iter().sum::<u64>(), operands);
+    let text = report.to_string();
+    let line = "\nmemory operands that the processor read at the engine's address: ";
+    assert!(text.contains(&format!("{line}{operands};")), "{text}");
+}
+
+/// So few that a person waits for them.
+#[test]
+fn few_cases_have_every_way_to_name_memory() {
+    if has_all_registers() {
+        check_addresses(&passed(&mut engine::reference(), options(ENOUGH)));
+    }
 }
 
 /// The widths of the instruction table, VEX and EVEX.
@@ -181,6 +190,10 @@ impl Engine for Flip {
         "one byte wrong"
     }
 
+    fn address(&mut self, code: &[u8], features: u32, general: &[u64], at: u64) -> Addressed {
+        engine::reference().address(code, features, general, at)
+    }
+
     fn step(
         &mut self,
         code: &[u8],
@@ -262,6 +275,10 @@ struct Wrong {
 impl Engine for Wrong {
     fn name(&self) -> &str {
         self.name
+    }
+
+    fn address(&mut self, code: &[u8], features: u32, general: &[u64], at: u64) -> Addressed {
+        engine::reference().address(code, features, general, at)
     }
 
     fn step(

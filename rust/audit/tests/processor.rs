@@ -6,7 +6,7 @@
     target_pointer_width = "64"
 ))]
 
-use audit::{Capabilities, Outcome, Processor, RegisterSet, State};
+use audit::{Capabilities, Outcome, Processor, RegisterSet, Setting, State};
 use reference::limits::feature;
 
 /// A processor with all registers, or one line that says why not.
@@ -251,8 +251,24 @@ fn masked_elements_are_read_too() {
     }
 }
 
+/// Operands at the end of their page and elsewhere, code before and behind them, low and high.
+fn settings() -> Vec<Setting> {
+    let mut settings = Vec::new();
+    for (gap, is_behind) in [(0, false), (1, true), (1_001, false), (4_031, true)] {
+        for is_high in [false, true] {
+            settings.push(Setting {
+                gap,
+                is_behind,
+                is_high,
+                ..Setting::PLAIN
+            });
+        }
+    }
+    settings
+}
+
 /// vpshufd xmm1, memory, 0xe4 with every mode, r/m and SIB byte under VEX and EVEX: each way to
-/// name memory leads to the operand.
+/// name memory leads to the operand, wherever it is.
 #[test]
 fn every_address_leads_to_the_operand() {
     let Some(mut processor) = processor() else {
@@ -271,16 +287,75 @@ fn every_address_leads_to_the_operand() {
         for tail in memory_tails() {
             let code = [prefix, tail.as_slice(), &[0xE4]].concat();
             let length = code.len();
-            let outcome = processor.run(&code, &state, &memory);
-            assert_eq!(outcome, Outcome::Done { length }, "{code:02X?}");
-            assert_eq!(processor.after().file[64..80], memory, "{code:02X?}");
-            ran += 1;
+            for setting in settings() {
+                let prepared = processor.prepare(&code, 16, &setting).expect("registers");
+                let target = prepared.target();
+                let outcome = processor.execute(&prepared, &state, &memory, target);
+                assert_eq!(outcome, Outcome::Done { length }, "{code:02X?}");
+                assert_eq!(processor.after().file[64..80], memory, "{code:02X?}");
+                ran += 1;
+            }
         }
     }
-    assert_eq!(ran, 4 * 3 * (7 + 256));
+    assert_eq!(ran, 8 * 4 * 3 * (7 + 256));
 }
 
-/// ModRM, SIB and an even displacement, for each mode and each r/m or SIB byte.
+/// What is read where the operand is not differs from it, also if that is only a byte away.
+#[test]
+fn operand_elsewhere_is_not_found() {
+    let Some(mut processor) = processor() else {
+        return;
+    };
+    let state = state();
+    let setting = Setting {
+        gap: 1_000,
+        ..Setting::PLAIN
+    };
+    // Forms that move their operand's bytes. In others it is a control, of which few bits count.
+    for (code, wanted) in &MEMORY_FORMS[..5] {
+        let memory: Vec<u8> = (0..*wanted).map(|i| (0x1B + 0x35 * i) as u8).collect();
+        let prepared = processor
+            .prepare(code, *wanted, &setting)
+            .expect("registers");
+        let target = prepared.target();
+        let mut after = |place| {
+            let outcome = processor.execute(&prepared, &state, &memory, place);
+            let length = code.len();
+            assert_eq!(outcome, Outcome::Done { length }, "{code:02X?}");
+            processor.after().clone()
+        };
+        let right = after(target);
+        for distance in [-64, -16, -8, -1, 1, 8, 16, 64] {
+            let place = target.wrapping_add_signed(distance);
+            assert!(after(place) != right, "{code:02X?}, {distance}");
+        }
+        assert!(after(target) == right, "{code:02X?}");
+    }
+}
+
+/// Outside of its page an operand is not placed, and nothing is run.
+#[test]
+fn operand_must_be_in_its_page() {
+    let Some(mut processor) = processor() else {
+        return;
+    };
+    // vpshufd xmm1, [rax], 0x1b
+    let code = [0xC5, 0xF9, 0x70, 0x08, 0x1B];
+    for setting in settings() {
+        let prepared = processor.prepare(&code, 16, &setting).expect("registers");
+        let end = prepared.target() + 16 + setting.gap as u64;
+        for place in [0, end - 4_097, end - 15, prepared.entry(), u64::MAX] {
+            assert!(!processor.holds(&prepared, place, 16), "{place:X}");
+            let outcome = processor.execute(&prepared, &state(), &[0; 16], place);
+            assert!(matches!(outcome, Outcome::NotRun(_)), "{place:X}");
+        }
+        for place in [end - 4_096, end - 16] {
+            assert!(processor.holds(&prepared, place, 16), "{place:X}");
+        }
+    }
+}
+
+/// ModRM, SIB and an odd displacement, for each mode and each r/m or SIB byte.
 fn memory_tails() -> Vec<Vec<u8>> {
     let mut tails = Vec::new();
     for mode in 0..3 {
@@ -297,8 +372,8 @@ fn memory_tails() -> Vec<Vec<u8>> {
 
 fn with_displacement(mut tail: Vec<u8>, mode: u8, base: u8) -> Vec<u8> {
     match (mode, base) {
-        (1, _) => tail.push(0x86),
-        (2, _) | (0, 5) => tail.extend([0x12, 0x34, 0x56, 0x87]),
+        (1, _) => tail.push(0x87),
+        (2, _) | (0, 5) => tail.extend([0x13, 0x34, 0x56, 0x87]),
         _ => {}
     }
     tail

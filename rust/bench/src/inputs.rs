@@ -44,6 +44,18 @@ impl Inputs {
         inputs
     }
 
+    /// The same with a memory operand.
+    pub fn memory(count: usize) -> Inputs {
+        let mut random = Random::new(1);
+        let mut shapes = Shape::all();
+        shapes.retain(|shape| shape.memory);
+        let mut inputs = Inputs::new("memory");
+        for _ in 0..count {
+            inputs.push(&random.pick(&shapes).encode(&mut random));
+        }
+        inputs
+    }
+
     /// Accepted, with a bit flipped, truncated, and random bytes behind a prefix, in turn.
     pub fn mixed(count: usize) -> Inputs {
         let mut random = Random::new(2);

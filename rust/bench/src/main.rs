@@ -2,6 +2,7 @@
 //!
 //! Run with `cargo run --release --bin bench`. It reports, and judges nothing.
 
+mod addressing;
 mod decoding;
 mod inputs;
 mod lists;
@@ -13,7 +14,13 @@ use std::process::ExitCode;
 
 fn main() -> ExitCode {
     println!("processor: {}", processor_name());
-    for print_table in [decoding::print, stepping::print, lists::print] {
+    let tables = [
+        decoding::print,
+        addressing::print,
+        stepping::print,
+        lists::print,
+    ];
+    for print_table in tables {
         println!();
         if let Err(place) = print_table() {
             println!("results differ: {place}");

@@ -31,7 +31,8 @@ impl Answer {
 pub enum Failure {
     /// Says what was expected: exit status 2.
     Usage(String),
-    /// A refusal by a command that prints nothing else: exit status 1.
+    /// A refusal by a command that prints nothing else, or a slip of the command itself: exit
+    /// status 1.
     Refused(String),
 }
 

@@ -1,23 +1,28 @@
 //! A decoded instruction in words.
 
+use crate::operand::Operand;
 use tarhuspo::{mnemonic_name, Decoded};
 
-/// The instruction as an assembler writes it, then each field on its own line.
-pub fn described(decoded: &Decoded) -> String {
-    let mut text = instruction(decoded) + "\n";
-    for (name, value) in fields(decoded) {
+/// The instruction as an assembler writes it, then each field on its own line. `operand` is its
+/// memory operand, if it has one.
+pub fn described(decoded: &Decoded, operand: Option<&Operand>) -> String {
+    let mut text = instruction(decoded, operand) + "\n";
+    for (name, value) in fields(decoded, operand) {
         let value = value.unwrap_or_else(|| "none".to_string());
         text += &format!("{:15}{value}\n", format!("{name}:"));
     }
     text
 }
 
-fn instruction(decoded: &Decoded) -> String {
+fn instruction(decoded: &Decoded, operand: Option<&Operand>) -> String {
     let mut operands = vec![destination(decoded)];
     if decoded.has_first() {
         operands.push(register(decoded, decoded.first));
     }
-    operands.push(third_operand(decoded));
+    operands.push(match operand {
+        Some(operand) => memory(decoded, operand),
+        None => register(decoded, decoded.third),
+    });
     if decoded.has_immediate != 0 {
         operands.push(immediate(decoded));
     }
@@ -28,7 +33,8 @@ fn name(decoded: &Decoded) -> &'static str {
     mnemonic_name(decoded.mnemonic).unwrap_or("unknown")
 }
 
-fn register(decoded: &Decoded, number: u32) -> String {
+/// A register by its number and the vector width.
+pub fn register(decoded: &Decoded, number: u32) -> String {
     let file = match decoded.bits {
         128 => "xmm",
         256 => "ymm",
@@ -48,13 +54,12 @@ fn destination(decoded: &Decoded) -> String {
     text
 }
 
-/// A register, or memory by its size: where it lies is not part of a decoding.
-fn third_operand(decoded: &Decoded) -> String {
-    let operand = format!("{} ptr [mem]", size(decoded.memory));
-    match (decoded.memory, decoded.broadcast) {
-        (0, _) => register(decoded, decoded.third),
-        (_, 0) => operand,
-        _ => format!("{operand}{{1to{}}}", elements(decoded)),
+/// A memory operand with its size, and with the elements that a broadcast fills.
+pub fn memory(decoded: &Decoded, operand: &Operand) -> String {
+    let text = format!("{} ptr {operand}", size(decoded.memory));
+    match decoded.broadcast {
+        0 => text,
+        _ => format!("{text}{{1to{}}}", elements(decoded)),
     }
 }
 
@@ -81,15 +86,13 @@ fn immediate(decoded: &Decoded) -> String {
 }
 
 /// Each field with its value in words, or nothing where the instruction has none.
-fn fields(decoded: &Decoded) -> [(&'static str, Option<String>); 11] {
+fn fields(decoded: &Decoded, operand: Option<&Operand>) -> [(&'static str, Option<String>); 11] {
     let register = |number| register(decoded, number);
-    let has_memory = decoded.memory != 0;
-    let third = if has_memory {
-        "memory".to_string()
-    } else {
-        register(decoded.third)
+    let third = match operand {
+        Some(operand) => operand.to_string(),
+        None => register(decoded.third),
     };
-    let memory = has_memory.then(|| format!("{} bytes", decoded.memory));
+    let memory = operand.map(|_| format!("{} bytes", decoded.memory));
     let first = decoded.has_first().then(|| register(decoded.first));
     let opmask = (decoded.mask != 0).then(|| format!("k{}", decoded.mask));
     let immediate = (decoded.has_immediate != 0).then(|| immediate(decoded));

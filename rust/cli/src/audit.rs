@@ -103,12 +103,18 @@ impl Line {
 mod tests {
     use super::{closing, Failure};
     use ::audit::engine::Function;
-    use ::audit::{audit, Answer, Capabilities, Limit, Options};
+    use ::audit::{audit, Addressed, Answer, Capabilities, Limit, Options};
 
     /// An engine that refuses everything.
     fn refusing() -> Function {
         Function {
             name: "refuses everything",
+            address: |_, _, _, _| Addressed {
+                status: 3,
+                reason: 0,
+                has_address: false,
+                address: 0,
+            },
             step: |_, _, _, _, _| Answer {
                 status: 3,
                 length: 0,
@@ -131,10 +137,13 @@ mod tests {
         assert!(answer.is_refused, "{text}");
         let told = [
             "difference: engine refuses everything, seed 9, case 0\n",
+            "\n  engine: status 3, reason 0, no address; expected: no address, for a register",
             "\n  engine: status 3; expected: status 0\n",
             "\ninstruction: ",
             "\nfeatures: ",
             "\nmemory, ",
+            "\nrun as: ",
+            "\nr15: ",
             "\nk7: ",
             "\nregister 31 before, byte 0 first: ",
             "\nrepeat with: tarhuspo audit --seed 9 --case 0\n",

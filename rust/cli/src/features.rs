@@ -1,6 +1,6 @@
 //! Features, by name or as a number.
 
-use crate::hex::without_0x;
+use crate::hex;
 use crate::options::{expected, Options, FEATURES};
 use tarhuspo::features;
 
@@ -19,13 +19,8 @@ fn parse(list: &str) -> Result<u32, String> {
         let mut names = list.split(',');
         return names.try_fold(0, |sum, name| Ok(sum | feature(name)?));
     }
-    let digits = without_0x(list);
-    let radix = if digits == list { 10 } else { 16 };
-    match u32::from_str_radix(digits, radix) {
-        // Rust's numbers may have a sign.
-        Ok(number) if !digits.starts_with('+') => Ok(number),
-        _ => Err(expected("a feature number below 2^32", list)),
-    }
+    let number = hex::number(list).and_then(|number| u32::try_from(number).ok());
+    number.ok_or_else(|| expected("a feature number below 2^32", list))
 }
 
 fn feature(name: &str) -> Result<u32, String> {

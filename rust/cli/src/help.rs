@@ -2,7 +2,7 @@
 
 use crate::answer::{Answer, Failure};
 use crate::options::expected;
-use crate::{audit, compare, decode, list, map, run};
+use crate::{address, audit, compare, decode, list, map, run};
 use std::ffi::OsString;
 use tarhuspo::version::{MAJOR, MINOR};
 
@@ -13,7 +13,7 @@ pub struct Command {
     pub run: fn(&[OsString]) -> Result<Answer, Failure>,
 }
 
-pub const COMMANDS: [Command; 6] = [
+pub const COMMANDS: [Command; 7] = [
     Command {
         name: "list",
         help: &[LIST, REASONS, CODE, LIST_END],
@@ -23,6 +23,11 @@ pub const COMMANDS: [Command; 6] = [
         name: "decode",
         help: &[DECODE, FEATURES, REASONS, DECODE_END],
         run: decode::run,
+    },
+    Command {
+        name: "address",
+        help: &[ADDRESS, FEATURES, ADDRESS_END],
+        run: address::run,
     },
     Command {
         name: "run",
@@ -91,6 +96,7 @@ usage: tarhuspo COMMAND ..
 
   list       the instructions of a list, a line for each
   decode     one instruction in words
+  address    where the memory operand of an instruction is
   run        a list of instructions on a register file
   map        byte maps: what a list does to every register file
   compare    whether lists of instructions do the same
@@ -160,9 +166,11 @@ usage: tarhuspo decode HEX.. [--features LIST]
 
 Prints the instruction that the bytes start with as an assembler writes it, then
 its length, the memory that it wants, and each operand; or the status and why it
-is refused, which for status 4 (#UD) is a field and what it must be. A decoding
-does not say where memory lies, so that an operand there is written by its size:
-xmmword ptr [mem], or dword ptr [mem]{1to16} for one element that is repeated.
+is refused, which for status 4 (#UD) is a field and what it must be. An operand in
+memory is written with its size and how its address comes about, such as
+xmmword ptr [rbx + r12*4 - 0x40], or dword ptr [rip + 0x10]{1to16} for one element
+that is repeated. A displacement is in bytes there: EVEX counts one of a single
+byte in vectors, or in elements. tarhuspo address works the address out.
 
   HEX              the bytes, as pairs of hex digits, with or without spaces
                    and 0x
@@ -172,6 +180,33 @@ const DECODE_END: &str = "
 example: tarhuspo decode 62 F1 7D C9 70 CA 1B --features avx512f
 
 exit status: 0 accepted, 1 refused, 2 bad usage
+";
+
+const ADDRESS: &str = "\
+usage: tarhuspo address HEX.. [--at ADDRESS] [--gpr LIST].. [--features LIST]
+
+Prints the address of the memory operand, for the instruction that the bytes start
+with; then the operand as decode writes it, and the value of each register in it,
+where rip is the address of the next instruction. The sum wraps around at 64 bits,
+and the base of a segment is not in it. An instruction without a memory operand is
+said to have none; one that is refused has its status and why. Status 4 (#UD)
+comes with a reason: tarhuspo help decode lists them.
+
+  HEX              the bytes, as pairs of hex digits, with or without spaces
+                   and 0x
+  --at ADDRESS     where the instruction stands, which matters for rip alone; 0 if
+                   not given
+  --gpr LIST       general registers (rax, rcx, rdx, rbx, rsp, rbp, rsi, rdi, r8
+                   to r15) with their values, between commas; 0 if not given; may
+                   be given several times
+";
+
+const ADDRESS_END: &str = "
+Addresses and values are decimal, or hex with 0x in front.
+
+example: tarhuspo address 62B17D48704CA3FF1B --gpr rbx=0x1000,r12=8
+
+exit status: 0 accepted, also without a memory operand; 1 refused; 2 bad usage
 ";
 
 const RUN: &str = "\
@@ -256,8 +291,10 @@ usage: tarhuspo audit [--seconds N | --steps N | --case N] [--seed N]
 Carries out random instructions on this machine's processor and with the library.
 After each it compares 2,048 register bytes (32 registers of 64 bytes), 8 opmasks
 of 64 bits, the memory operand, status, reason and length, and guard bytes around
-all buffers. Damaged encodings must raise #UD and be refused with status 4 and the
-damaged field as the reason; b with a register as third operand, which some
+all buffers. The general registers are random too, and the memory operand stands
+where the library works out its address, among other bytes: the processor has to
+find it there. Damaged encodings must raise #UD and be refused with status 4 and
+the damaged field as the reason; b with a register as third operand, which some
 processors ignore, must be refused all the same. It ends at the first difference,
 and prints all that is needed to repeat that.
 

@@ -35,6 +35,17 @@ pub fn numbers(text: &str) -> Result<Vec<u64>, Odd<'_>> {
     groups(text).map(number).collect()
 }
 
+/// A number below 2^64 that is no hex text: decimal, or hex with 0x in front.
+pub fn number(text: &str) -> Option<u64> {
+    let digits = without_0x(text);
+    let radix = if digits == text { 10 } else { 16 };
+    // Rust's numbers may have a sign.
+    let is_signed = digits.starts_with('+');
+    u64::from_str_radix(digits, radix)
+        .ok()
+        .filter(|_| !is_signed)
+}
+
 /// Each group with the number of its line.
 fn groups(text: &str) -> impl Iterator<Item = (usize, &str)> {
     let lines = (1..).zip(text.lines());
@@ -53,7 +64,7 @@ fn byte(pair: &[u8]) -> Option<u8> {
     u8::try_from(digit(*high)? * 16 + digit(*low)?).ok()
 }
 
-pub fn without_0x(group: &str) -> &str {
+fn without_0x(group: &str) -> &str {
     let stripped = group.strip_prefix("0x");
     stripped
         .or_else(|| group.strip_prefix("0X"))

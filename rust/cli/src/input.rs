@@ -155,8 +155,22 @@ fn hinting(message: String, word: &OsStr) -> String {
     }
 }
 
-/// Bytes that stand in the arguments, as a command without files takes them.
-pub fn bytes(word: &OsStr) -> Result<Vec<u8>, String> {
+/// The bytes of one instruction, which stand in the operands of a command without files. Where
+/// there are none, the example says what they look like.
+pub fn instruction(command: &str, example: &str, options: &Options) -> Result<Vec<u8>, String> {
+    if options.operands.is_empty() {
+        return Err(format!(
+            "expected hex bytes after '{command}', as in: {command} {example}"
+        ));
+    }
+    let mut code = Vec::new();
+    for word in &options.operands {
+        code.extend(bytes(word)?);
+    }
+    Ok(code)
+}
+
+fn bytes(word: &OsStr) -> Result<Vec<u8>, String> {
     let text = word.to_string_lossy();
     let found = hex::bytes(text.strip_prefix(INLINE).unwrap_or(&text));
     found.map_err(|odd| expected("pairs of hex digits", odd.group))

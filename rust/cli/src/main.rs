@@ -1,16 +1,19 @@
-//! The command `tarhuspo`. All decoding and moving is the proved library's.
+//! The command `tarhuspo`. All decoding and moving, and every address, is the proved library's.
 
+mod address;
 mod answer;
 mod assembler;
 mod audit;
 mod compare;
 mod decode;
 mod features;
+mod general;
 mod help;
 mod hex;
 mod input;
 mod list;
 mod map;
+mod operand;
 mod options;
 mod output;
 mod places;

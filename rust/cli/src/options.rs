@@ -8,17 +8,32 @@ pub struct Known {
     name: &'static str,
     /// What its value is; nothing for an option without one.
     value: Option<&'static str>,
+    /// Whether it may be given more than once.
+    is_repeated: bool,
 }
 
 impl Known {
     pub const fn flag(name: &'static str) -> Known {
-        Known { name, value: None }
+        Known {
+            name,
+            value: None,
+            is_repeated: false,
+        }
     }
 
     pub const fn with(name: &'static str, value: &'static str) -> Known {
         Known {
             name,
             value: Some(value),
+            is_repeated: false,
+        }
+    }
+
+    pub const fn repeated(name: &'static str, value: &'static str) -> Known {
+        Known {
+            name,
+            value: Some(value),
+            is_repeated: true,
         }
     }
 }
@@ -76,7 +91,7 @@ impl<'a> Options<'a> {
                 .or_else(|| rest.next())
                 .ok_or_else(|| format!("expected {what} after {name}"))?,
         };
-        if self.value(found).is_some() {
+        if !found.is_repeated && self.has(found) {
             return Err(format!("expected {name} only once"));
         }
         self.given.push((found.name, value));
@@ -88,9 +103,14 @@ impl<'a> Options<'a> {
     }
 
     pub fn value(&self, option: &Known) -> Option<&'a OsStr> {
-        let mut given = self.given.iter();
-        let found = given.find(|(name, _)| *name == option.name);
-        found.map(|(_, value)| *value)
+        self.values(option).first().copied()
+    }
+
+    /// Every value of an option that may be given more than once.
+    pub fn values(&self, option: &Known) -> Vec<&'a OsStr> {
+        let given = self.given.iter();
+        let found = given.filter(|(name, _)| *name == option.name);
+        found.map(|(_, value)| *value).collect()
     }
 
     /// A value that has to be a whole number.

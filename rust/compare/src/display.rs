@@ -26,6 +26,18 @@ pub fn masks(masks: &[u64]) -> String {
     text
 }
 
+/// General registers in hexadecimal, 4 to a line. Lines are numbered by their first register.
+pub fn gprs(registers: &[u64]) -> String {
+    let mut text = format!("general registers, {}:", registers.len());
+    for (number, line) in registers.chunks(4).enumerate() {
+        let _ = write!(text, "\n{:>4}:", 4 * number);
+        for register in line {
+            let _ = write!(text, " {register:016X}");
+        }
+    }
+    text
+}
+
 /// Entries of a byte map in hexadecimal, 64 to a line. Lines are numbered by register.
 pub fn entries(name: &str, entries: &[u16]) -> String {
     let mut text = format!("{name}, {} entries:", entries.len());

@@ -1,5 +1,6 @@
 //! The proved library and the independent reference compared, on inputs of the crate `inputs`.
 
+pub mod addressing;
 pub mod building;
 pub mod controls;
 pub mod coverage;
@@ -12,4 +13,5 @@ pub mod mapping;
 pub mod running;
 pub mod stepping;
 
-pub use inputs::{encoding, faults, form, limits, lists, random, reserved, state, tally};
+pub use inputs::{addresses, encoding, faults, form, limits, lists, operand, random};
+pub use inputs::{reserved, state, tally};

@@ -29,6 +29,12 @@ fn c_program_runs_against_the_archive() {
                     without avx512bw: 5 0 0 0 0 0 0 0 0 0 0 0 0 0, reason 0\n\
                     z: 4 0 0 0 0 0 0 0 0 0 0 0 0 0, reason 6\n\
                     b and z: 4 0 0 0 0 0 0 0 0 0 0 0 0 0, reason 5\n\
+                    address: 0 0 1 000000000000a020\n\
+                    next instruction: 0 0 1 fffffffffffffffe\n\
+                    register form: 0 0 0 0000000000000000\n\
+                    fifteen registers: 1 0 0 0000000000000000\n\
+                    short address: 2 0 0 0000000000000000\n\
+                    reserved address: 4 6 0 0000000000000000\n\
                     step: 0 7, bytes 0 5 8 0 0\n\
                     refused step: 6 0, bytes 5 8\n\
                     reserved step: 4 0, reason 2\n\
@@ -55,7 +61,7 @@ fn c_program_runs_against_the_archive() {
 }
 
 /// The constants of the Rust wrapper, under the names that the header gives them.
-const CONSTANTS: [(&str, u64); 21] = [
+const CONSTANTS: [(&str, u64); 22] = [
     ("VERSION_MAJOR", version::MAJOR as u64),
     ("VERSION_MINOR", version::MINOR as u64),
     ("AVX", features::AVX as u64),
@@ -72,6 +78,7 @@ const CONSTANTS: [(&str, u64); 21] = [
     ("REASON_Z", reason::Z as u64),
     ("FILE_SIZE", limits::FILE_SIZE as u64),
     ("MASK_COUNT", limits::MASK_COUNT as u64),
+    ("GPR_COUNT", limits::GPR_COUNT as u64),
     ("MAP_SIZE", limits::MAP_SIZE as u64),
     ("MAP_ZERO", limits::MAP_ZERO as u64),
     ("CODE_LIMIT", limits::CODE_LIMIT as u64),
@@ -85,9 +92,9 @@ fn constants_are_those_of_the_wrapper() {
     assert_eq!(printed("constants.c", "c_constants"), lines.concat());
 }
 
-/// What request 3 says in numbers, and the version that it made.
+/// What requests 3 and 4 say in numbers, and the version that they made.
 #[test]
-fn constants_of_request_3() {
+fn constants_of_requests() {
     let reasons = [
         reason::FIXED_BITS,
         reason::W,
@@ -98,7 +105,8 @@ fn constants_of_request_3() {
     ];
     assert_eq!(reasons, [1, 2, 3, 4, 5, 6]);
     assert_eq!(limits::TEXT_SIZE, 27_672);
-    assert_eq!((version::MAJOR, version::MINOR), (3, 0));
+    assert_eq!(limits::GPR_COUNT, 16);
+    assert_eq!((version::MAJOR, version::MINOR), (3, 1));
 }
 
 /// None is left out above.

@@ -1,6 +1,6 @@
 //! Answer 4 with its reason (request 3): every set of reserved fields that can be wrong together,
-//! compared with the reference by decoding, step, run, build and listing. What is expected comes from
-//! the fields that were made wrong.
+//! compared with the reference by decoding, address, step, run, build and listing. What is expected
+//! comes from the fields that were made wrong.
 
 use compare::encoding::{Prefix, Shape};
 use compare::limits::features::{ALL, SETS};
@@ -8,9 +8,9 @@ use compare::lists::{List, Mix};
 use compare::random::Random;
 use compare::reserved::{possible_pairs, Field, Pair, Wrong};
 use compare::tally::{Counts, Reasons, Table};
-use compare::{building, decoding, listings, running, stepping};
+use compare::{addressing, building, decoding, listings, running, stepping};
 use std::collections::{BTreeMap, BTreeSet};
-use tarhuspo::{Built, Ran, Stepped};
+use tarhuspo::{Addressed, Built, Ran, Stepped};
 
 const LEAST: u64 = 200_000;
 
@@ -51,6 +51,7 @@ impl Input<'_> {
 /// A comparison for each entry point.
 struct Comparisons {
     decoding: decoding::Comparison,
+    addressing: addressing::Comparison,
     stepping: stepping::Comparison,
     running: running::Comparison,
     building: building::Comparison,
@@ -67,6 +68,7 @@ impl Comparisons {
     fn new() -> Comparisons {
         Comparisons {
             decoding: decoding::Comparison::default(),
+            addressing: addressing::Comparison::default(),
             stepping: stepping::Comparison::default(),
             running: running::Comparison::default(),
             building: building::Comparison::default(),
@@ -80,6 +82,7 @@ impl Comparisons {
     /// Compares an instruction with these wrong fields by all entry points.
     fn check(&mut self, wrong: &Wrong, input: &Input, random: &mut Random) {
         self.check_decoding(input);
+        self.check_address(input, random);
         self.check_step(input, random);
         let list = self.list_before(input.features, random);
         self.check_run(&list, input, random);
@@ -99,6 +102,22 @@ impl Comparisons {
         let answer = (decoded.status, decoded.reason);
         assert_eq!(answer, input.answer(), "{:02X?}", input.code);
         self.counts.add(answer.0);
+    }
+
+    fn check_address(&mut self, input: &Input, random: &mut Random) {
+        let mut case = addressing::Case::new(random);
+        case.code = input.code.to_vec();
+        case.behind = input.behind.to_vec();
+        case.features = input.features;
+        let (status, reason) = input.answer();
+        let expected = Addressed {
+            address: 0,
+            status,
+            reason,
+            has_address: false,
+        };
+        assert_eq!(self.addressing.check(&case), expected, "{case}");
+        self.counts.add(status);
     }
 
     /// Under a memory operand of any length: the code's faults come first.
@@ -181,13 +200,14 @@ impl Comparisons {
     }
 
     /// The reasons that each entry point gave.
-    fn reasons(&self) -> [(&'static str, Reasons); 5] {
+    fn reasons(&self) -> [(&'static str, Reasons); 6] {
         let mut decoding = Reasons::default();
         for reasons in self.decoding.reasons.values() {
             decoding.merge(reasons);
         }
         [
             ("decode", decoding),
+            ("address", self.addressing.reasons),
             ("step", self.stepping.reasons),
             ("run", self.running.reasons),
             ("build", self.building.reasons),

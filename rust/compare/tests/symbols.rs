@@ -84,7 +84,9 @@ fn archive_needs_what_the_header_says() {
 #[test]
 fn functions_are_found_in_the_header() {
     let names = declared();
-    assert!(names.contains("tarhuspo_decode") && names.contains("tarhuspo_bytemap_compose"));
+    for name in ["decode", "address", "bytemap_compose"] {
+        assert!(names.contains(&format!("tarhuspo_{name}")), "{names:?}");
+    }
     assert!(
         names.iter().all(|name| name.starts_with("tarhuspo_")),
         "{names:?}"

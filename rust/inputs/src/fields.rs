@@ -1,6 +1,7 @@
 //! Fields of an encoding, written over what is there.
 
 use crate::encoding::{Prefix, Shape};
+use crate::operand::Operand;
 
 /// Writes the low `count` bits of `value` at bit `at`.
 fn put(byte: &mut u8, at: u32, count: u32, value: u8) {
@@ -76,6 +77,24 @@ impl Shape {
             put(&mut code[1], 6, 1, !number >> 4);
         }
         put(&mut code[self.opcode_at() + 1], 0, 3, number);
+    }
+
+    /// Another memory operand in the place of a memory form's.
+    pub fn set_operand(self, code: &mut Vec<u8>, operand: &Operand) {
+        let modrm_at = self.opcode_at() + 1;
+        let immediate = code.last().copied().filter(|_| self.row.immediate);
+        let reg = code[modrm_at] & 0x38;
+        code.truncate(modrm_at);
+        code.push(operand.mode << 6 | reg | operand.rm);
+        if operand.has_sib() {
+            code.push(operand.sib);
+        }
+        code.extend_from_slice(&operand.displacement[..operand.displacement_size()]);
+        code.extend(immediate);
+        if self.prefix != Prefix::Vex2 {
+            put(&mut code[1], 6, 1, !operand.x);
+            put(&mut code[1], 5, 1, !operand.b);
+        }
     }
 
     /// The last byte of a row with an immediate.

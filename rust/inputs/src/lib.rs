@@ -5,12 +5,14 @@
 
 #![forbid(unsafe_code)]
 
+pub mod addresses;
 pub mod encoding;
 pub mod faults;
 mod fields;
 pub mod form;
 pub mod limits;
 pub mod lists;
+pub mod operand;
 pub mod random;
 pub mod reserved;
 pub mod state;

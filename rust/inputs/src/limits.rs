@@ -4,6 +4,8 @@
 pub const FILE_SIZE: usize = 2_048;
 /// Opmask registers.
 pub const MASK_COUNT: usize = 8;
+/// General registers.
+pub const GPR_COUNT: usize = 16;
 /// Most bytes of a list.
 pub const CODE_LIMIT: usize = 4_096;
 /// Entries of a byte map.

@@ -215,14 +215,14 @@ fn needed_features(prefix: &Prefix, row: &Row) -> u32 {
 
 /// ModRM taken apart.
 #[derive(Debug, Clone, Copy)]
-struct ModRm {
-    mode: u8,
-    reg: u8,
-    rm: u8,
+pub(crate) struct ModRm {
+    pub mode: u8,
+    pub reg: u8,
+    pub rm: u8,
 }
 
 impl ModRm {
-    fn new(byte: u8) -> ModRm {
+    pub(crate) fn new(byte: u8) -> ModRm {
         ModRm {
             mode: byte >> 6,
             reg: (byte >> 3) & 7,
@@ -234,7 +234,7 @@ impl ModRm {
         self.mode == 3
     }
 
-    fn has_sib(self) -> bool {
+    pub(crate) fn has_sib(self) -> bool {
         !self.is_register() && self.rm == 4
     }
 }
@@ -256,7 +256,7 @@ impl Tail {
             base = byte_at(bytes, 1)? & 7;
             length += 1;
         }
-        length += displacement(modrm.mode, base);
+        length += displacement_size(modrm.mode, base);
         let mut immediate = 0;
         if has_immediate {
             immediate = byte_at(bytes, length)?;
@@ -278,7 +278,7 @@ fn byte_at(bytes: &[u8], index: usize) -> Result<u8, Refusal> {
 }
 
 /// Bytes of displacement. `base` is the SIB's low three bits if there is a SIB, else r/m.
-fn displacement(mode: u8, base: u8) -> usize {
+pub(crate) fn displacement_size(mode: u8, base: u8) -> usize {
     match (mode, base) {
         (0, 5) => 4,
         (1, _) => 1,

@@ -8,6 +8,8 @@ pub const REGISTER_SIZE: usize = 64;
 pub const FILE_SIZE: usize = 2_048;
 /// Opmask registers.
 pub const MASK_COUNT: usize = 8;
+/// General registers, which addresses are made of (request 4).
+pub const GPR_COUNT: usize = 16;
 /// Bytes of one lane.
 pub const LANE_SIZE: usize = 16;
 /// Most bytes of a list.
@@ -53,6 +55,14 @@ pub(crate) fn check_state(file: &[u8], masks: &[u64], features: u32) -> Result<(
         return Err(Refusal::Size);
     }
     check_masks(masks, features)
+}
+
+/// Answer 1 for general registers and features.
+pub(crate) fn check_registers(registers: &[u64], features: u32) -> Result<(), Refusal> {
+    if registers.len() != GPR_COUNT {
+        return Err(Refusal::Size);
+    }
+    check_features(features)
 }
 
 /// Answer 8.

@@ -24,6 +24,10 @@ pub(crate) struct Prefix {
     pub reg_high: u8,
     /// X.B, in place above ModRM r/m of a register operand; under VEX B alone.
     pub rm_high: u8,
+    /// B, in place above r/m or the SIB's base of a memory operand.
+    pub base_high: u8,
+    /// X, in place above the SIB's index.
+    pub index_high: u8,
     /// V'.vvvv
     pub vvvv: u8,
     pub zeroing: bool,
@@ -59,6 +63,8 @@ fn vex2(p: u8, opcode: u8) -> Prefix {
         width: bit(p, 2),
         reg_high: bit(!p, 7) << 3,
         rm_high: 0,
+        base_high: 0,
+        index_high: 0,
         vvvv: (!p >> 3) & 0x0F,
         zeroing: false,
         broadcast: false,
@@ -77,6 +83,8 @@ fn vex3(p: u8, q: u8, opcode: u8) -> Prefix {
         width: bit(q, 2),
         reg_high: bit(!p, 7) << 3,
         rm_high: bit(!p, 5) << 3,
+        base_high: bit(!p, 5) << 3,
+        index_high: bit(!p, 6) << 3,
         vvvv: (!q >> 3) & 0x0F,
         zeroing: false,
         broadcast: false,
@@ -95,6 +103,8 @@ fn evex(p: u8, q: u8, s: u8, opcode: u8) -> Prefix {
         width: (s >> 5) & 3,
         reg_high: (bit(!p, 4) << 4) | (bit(!p, 7) << 3),
         rm_high: (bit(!p, 6) << 4) | (bit(!p, 5) << 3),
+        base_high: bit(!p, 5) << 3,
+        index_high: bit(!p, 6) << 3,
         vvvv: (bit(!s, 3) << 4) | ((!q >> 3) & 0x0F),
         zeroing: bit(s, 7) == 1,
         broadcast: bit(s, 4) == 1,

@@ -1,5 +1,6 @@
 //! Processor features: one bit each, added up to the number that [`decode`](crate::decode),
-//! [`step`](crate::step()), [`run`](crate::run()) and [`bytemap_build`](crate::bytemap_build) take.
+//! [`address`](crate::address()), [`step`](crate::step()), [`run`](crate::run()) and
+//! [`bytemap_build`](crate::bytemap_build) take.
 //!
 //! ```
 //! use tarhuspo::{decode, features};

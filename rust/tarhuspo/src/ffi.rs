@@ -5,8 +5,29 @@
 
 use crate::{Built, Decoded, Listed, Ran, Stepped};
 
+/// The struct of the header, where a yes or no is a number. [`crate::Addressed`] has it as a bool.
+#[repr(C)]
+pub struct Addressed {
+    pub address: u64,
+    pub status: u32,
+    pub reason: u32,
+    pub has_address: u32,
+}
+
+// The proved library was compiled for this layout: a number of 8 bytes, three of 4, and padding.
+const _: () = assert!(size_of::<Addressed>() == 24 && align_of::<Addressed>() == 8);
+
 extern "C" {
     pub fn tarhuspo_decode(code: *const u8, code_len: usize, features: u32) -> Decoded;
+
+    pub fn tarhuspo_address(
+        code: *const u8,
+        code_len: usize,
+        features: u32,
+        registers: *const u64,
+        registers_len: usize,
+        instruction_address: u64,
+    ) -> Addressed;
 
     pub fn tarhuspo_step(
         code: *const u8,

@@ -12,6 +12,7 @@
 //! assert_eq!(decoded.length, 5);
 //! ```
 
+mod address;
 mod bytemap;
 mod decode;
 pub mod features;
@@ -25,6 +26,7 @@ mod status;
 mod step;
 pub mod version;
 
+pub use address::{address, Addressed};
 pub use bytemap::{bytemap_apply, bytemap_build, bytemap_compose, Built};
 pub use decode::{decode, Decoded};
 pub use listing::{listing, Listed};

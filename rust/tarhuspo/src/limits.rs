@@ -20,6 +20,8 @@
 pub const FILE_SIZE: usize = 2_048;
 /// Number of opmask registers.
 pub const MASK_COUNT: usize = 8;
+/// Number of general registers, which make up an address.
+pub const GPR_COUNT: usize = 16;
 /// Most bytes of a list of instructions.
 pub const CODE_LIMIT: usize = 4_096;
 /// A number of instructions that no list within [`CODE_LIMIT`] exceeds: each has at least 4 bytes.

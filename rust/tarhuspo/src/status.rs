@@ -2,9 +2,9 @@
 
 /// One sentence on what a status number means.
 ///
-/// Decoding gives 0 to 5, a step 0 to 6, and a run also 8. Building a byte map gives 0 to 5, 7 or 8,
-/// applying and composing give 0, 1 or 9, and a listing 0, 1 or 8. With 4 comes a reason, for which
-/// [`describe_reason`](crate::describe_reason) has a sentence of its own.
+/// Decoding and an address give 0 to 5, a step 0 to 6, and a run also 8. Building a byte map gives
+/// 0 to 5, 7 or 8, applying and composing give 0, 1 or 9, and a listing 0, 1 or 8. With 4 comes a
+/// reason, for which [`describe_reason`](crate::describe_reason) has a sentence of its own.
 ///
 /// ```
 /// use tarhuspo::{decode, describe, features};

@@ -10,7 +10,7 @@
 pub const MAJOR: u32 = 3;
 /// Moves when something is only added: a function, a constant, an instruction that status 3 refused
 /// before.
-pub const MINOR: u32 = 0;
+pub const MINOR: u32 = 1;
 
 #[cfg(test)]
 mod tests {

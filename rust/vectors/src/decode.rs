@@ -59,9 +59,9 @@ impl Input for Decode {
         ];
         Answer {
             status: d.status,
-            numbers: vec![d.length.into()],
             reason: Some(d.reason),
-            digest: Digest::of(&numbers),
+            numbers: vec![d.length.into(), d.reason.into()],
+            digest: Some(Digest::of(&numbers)),
         }
     }
 }

@@ -12,8 +12,8 @@ pub const MOST: usize = ROOM - 2 * GUARD;
 pub const TEXT_ROOM: usize = 28_160;
 pub const TEXT_MOST: usize = TEXT_ROOM - 2 * GUARD;
 
-/// Most opmasks, bytes of memory and bytes of code of an input.
-pub const MASKS_ROOM: usize = 16;
+/// Most opmasks or general registers, bytes of memory and bytes of code of an input.
+pub const MASKS_ROOM: usize = 24;
 pub const MEMORY_MOST: usize = 255;
 pub const CODE_ROOM: usize = 4_352;
 
@@ -75,7 +75,7 @@ impl Record {
         self.u16(span.start).u16(span.length)
     }
 
-    /// A part of the pool of opmasks, which has 256.
+    /// A part of the pool of opmasks, which has 256. General registers are one too.
     pub fn masks(self, span: Span) -> Record {
         self.u8(span.start).u8(span.length)
     }

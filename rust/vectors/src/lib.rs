@@ -5,6 +5,7 @@
 
 #![forbid(unsafe_code)]
 
+pub mod address;
 pub mod decode;
 pub mod digest;
 pub mod layout;
@@ -67,6 +68,10 @@ pub fn compose_inputs() -> Samples<Compose> {
     samples(6, &maps::COMPOSE_KINDS, own_record)
 }
 
+pub fn address_inputs() -> Samples<address::Address> {
+    samples(7, &address::KINDS, own_record)
+}
+
 fn own_record<I: Input>(input: &I) -> Vec<Vec<u8>> {
     vec![input.record().0]
 }
@@ -88,7 +93,9 @@ fn sections(pools: &Pools, lists: &Samples<ListInput>) -> Vec<Section> {
     apply.add_all(apply_inputs(), pools);
     let mut compose = Section::new("compose", &maps::STATUSES);
     compose.add_all(compose_inputs(), pools);
-    vec![decode, step, run, build, apply, compose, listing]
+    let mut address = Section::new("address", &address::STATUSES);
+    address.add_all(address_inputs(), pools);
+    vec![decode, step, run, build, apply, compose, listing, address]
 }
 
 fn list_data(lists: &Samples<ListInput>) -> Vec<u8> {

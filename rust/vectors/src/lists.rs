@@ -84,9 +84,9 @@ impl Input for Run<'_> {
         );
         Answer {
             status: ran.status,
-            numbers: vec![ran.steps, ran.place],
             reason: Some(ran.reason),
-            digest: Digest::of(&file),
+            numbers: vec![ran.steps, ran.place, ran.reason.into()],
+            digest: Some(Digest::of(&file)),
         }
     }
 }
@@ -109,9 +109,9 @@ impl Input for Build<'_> {
         );
         Answer {
             status: built.status,
-            numbers: vec![built.place],
             reason: Some(built.reason),
-            digest: Digest::of(&map),
+            numbers: vec![built.place, built.reason.into()],
+            digest: Some(Digest::of(&map)),
         }
     }
 }
@@ -127,9 +127,9 @@ impl Input for Listing<'_> {
         let listed = reference::listing(&input.code, passed(&mut text, input.text));
         Answer {
             status: listed.status,
-            numbers: vec![listed.written],
             reason: None,
-            digest: Digest::of(&text),
+            numbers: vec![listed.written],
+            digest: Some(Digest::of(&text)),
         }
     }
 }

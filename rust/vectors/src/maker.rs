@@ -1,12 +1,16 @@
 //! Random codes, features and sizes, right ones and wrong ones.
 
 use crate::layout::{Span, CODE_ROOM, MASKS_ROOM, MOST};
-use inputs::encoding::{Row, ROWS};
+use inputs::encoding::{Prefix, Row, ROWS};
 use inputs::faults::Fault;
 use inputs::form::Form;
 use inputs::limits::features::{ALL, SETS};
-use inputs::limits::{CODE_LIMIT, FILE_SIZE, MASK_COUNT};
+use inputs::limits::{CODE_LIMIT, FILE_SIZE, GPR_COUNT, MASK_COUNT};
+use inputs::operand::Operand;
 use inputs::random::Random;
+
+/// Most opmasks of an input. There is room for more, but then the inputs would be others.
+const MASKS_MOST: usize = 16;
 
 pub struct Maker {
     pub random: Random,
@@ -25,13 +29,26 @@ impl Maker {
         }
     }
 
-    /// An instruction that all features together accept. The rows take turns, so that a dozen
-    /// inputs have every one.
-    pub fn accepted(&mut self) -> Vec<u8> {
-        let forms = &self.rows[self.made % self.rows.len()];
+    /// A form that fits. The rows take turns, so that a dozen inputs have every one.
+    fn form(&mut self, fits: fn(&Form) -> bool) -> Form {
+        let forms = self.rows[self.made % self.rows.len()].iter().copied();
         self.made += 1;
-        let form = self.random.pick(forms);
-        form.encode(&mut self.random)
+        let forms: Vec<_> = forms.filter(fits).collect();
+        self.random.pick(&forms)
+    }
+
+    /// An instruction that all features together accept.
+    pub fn accepted(&mut self) -> Vec<u8> {
+        self.form(|_| true).encode(&mut self.random)
+    }
+
+    /// As [`accepted`](Maker::accepted), a memory form with an operand made by `operand`.
+    pub fn with_operand(&mut self, operand: fn(Prefix, &mut Random) -> Operand) -> Vec<u8> {
+        let form = self.form(|form| form.shape.memory);
+        let mut code = form.encode(&mut self.random);
+        let operand = operand(form.shape.prefix, &mut self.random);
+        form.shape.set_operand(&mut code, &operand);
+        code
     }
 
     pub fn flip(&mut self, code: &mut [u8]) {
@@ -117,7 +134,17 @@ impl Maker {
     }
 
     pub fn wrong_masks(&mut self) -> Span {
-        let count = self.wrong_size(MASK_COUNT, MASKS_ROOM);
+        let count = self.wrong_size(MASK_COUNT, MASKS_MOST);
+        Span::new(self.random.below(256), count)
+    }
+
+    /// General registers, which are a part of the pool of opmasks.
+    pub fn gprs(&mut self) -> Span {
+        Span::new(self.random.below(256), GPR_COUNT)
+    }
+
+    pub fn wrong_gprs(&mut self) -> Span {
+        let count = self.wrong_size(GPR_COUNT, MASKS_ROOM);
         Span::new(self.random.below(256), count)
     }
 

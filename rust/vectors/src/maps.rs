@@ -54,9 +54,9 @@ impl Input for Apply {
         let status = reference::apply(&pools.map(self.map), passed(&mut file, self.file));
         Answer {
             status,
-            numbers: vec![],
             reason: None,
-            digest: Digest::of(&file),
+            numbers: vec![],
+            digest: Some(Digest::of(&file)),
         }
     }
 }
@@ -73,9 +73,9 @@ impl Input for Compose {
         let status = reference::compose(&first, &second, passed(&mut out, self.out));
         Answer {
             status,
-            numbers: vec![],
             reason: None,
-            digest: Digest::of(&out),
+            numbers: vec![],
+            digest: Some(Digest::of(&out)),
         }
     }
 }

@@ -10,20 +10,19 @@ use std::collections::HashSet;
 /// What an entry point answers: the status, other numbers, and the digest of what it may write.
 pub struct Answer {
     pub status: u32,
-    pub numbers: Vec<u64>,
-    /// The last of the numbers, if the entry point gives it.
+    /// One of the numbers, if the entry point gives it.
     pub reason: Option<u32>,
-    pub digest: Digest,
+    pub numbers: Vec<u64>,
+    /// None if the numbers are all of the result.
+    pub digest: Option<Digest>,
 }
 
 impl Answer {
     fn line(&self) -> String {
-        let mut line = format!("{:x} ", self.status);
-        let reason = self.reason.map(u64::from);
-        for number in self.numbers.iter().copied().chain(reason) {
-            line += &format!("{number:x} ");
-        }
-        line + &format!("{}\n", self.digest)
+        let mut words = vec![format!("{:x}", self.status)];
+        words.extend(self.numbers.iter().map(|number| format!("{number:x}")));
+        words.extend(self.digest.map(|digest| digest.to_string()));
+        words.join(" ") + "\n"
     }
 }
 

@@ -59,9 +59,9 @@ impl Input for Step {
         );
         Answer {
             status: stepped.status,
-            numbers: vec![stepped.length.into()],
             reason: Some(stepped.reason),
-            digest: Digest::of(&file),
+            numbers: vec![stepped.length.into(), stepped.reason.into()],
+            digest: Some(Digest::of(&file)),
         }
     }
 }

@@ -2,6 +2,8 @@
 
 use super::Outcome;
 use crate::detect::{Capabilities, RegisterSet};
+use crate::operand::Operand;
+use crate::setting::Setting;
 use crate::state::State;
 use std::io;
 
@@ -19,6 +21,18 @@ impl Processor {
     }
 
     pub fn run(&mut self, _: &[u8], _: &State, _: &[u8]) -> Outcome {
+        unreachable!()
+    }
+
+    pub fn prepare(&self, _: &[u8], _: usize, _: &Setting) -> Result<Prepared, &'static str> {
+        unreachable!()
+    }
+
+    pub fn holds(&self, _: &Prepared, _: u64, _: usize) -> bool {
+        unreachable!()
+    }
+
+    pub fn execute(&mut self, _: &Prepared, _: &State, _: &[u8], _: u64) -> Outcome {
         unreachable!()
     }
 
@@ -40,6 +54,32 @@ impl Processor {
 }
 
 /// There is none either.
+#[derive(Debug, Clone)]
+pub struct Prepared(());
+
+impl Prepared {
+    pub fn code(&self) -> &[u8] {
+        unreachable!()
+    }
+
+    pub fn general(&self) -> &[u64; 16] {
+        unreachable!()
+    }
+
+    pub fn operand(&self) -> Option<&Operand> {
+        unreachable!()
+    }
+
+    pub fn entry(&self) -> u64 {
+        unreachable!()
+    }
+
+    pub fn target(&self) -> u64 {
+        unreachable!()
+    }
+}
+
+/// Nor is there one of these.
 pub struct Sequence(());
 
 impl Sequence {

@@ -17,7 +17,7 @@ mod native;
 #[path = "elsewhere.rs"]
 mod native;
 
-pub use native::{Processor, Sequence};
+pub use native::{Prepared, Processor, Sequence};
 
 /// How an instruction ended on the processor.
 #[derive(Debug, Clone, Copy, PartialEq, Eq)]

@@ -27,6 +27,7 @@ fn report_states_sizes_with_their_units() {
         "\ncompared after each: 2048 register bytes (32 registers of 64 bytes), ",
         " 8 opmasks of 64 bits,\n",
         " status, reason, length in bytes, the memory operand, the guard bytes ",
+        "\nmemory operands that the processor read at the engine's address: ",
         "\nno difference\n",
     ];
     for line in lines {

@@ -61,14 +61,14 @@ immediate:     0x1b
 #[test]
 fn accepted_broadcast_form() {
     let expected = "\
-vpermilpd ymm17{k3}, ymm9, qword ptr [mem]{1to4}
+vpermilpd ymm17{k3}, ymm9, qword ptr [rax]{1to4}
 length:        6 bytes
 memory:        8 bytes
 encoding:      EVEX
 vector width:  256 bits
 destination:   ymm17
 first source:  ymm9
-third operand: memory
+third operand: [rax]
 opmask:        k3
 masked off:    elements are merged
 broadcast:     one qword to 4
@@ -82,14 +82,14 @@ immediate:     none
 #[test]
 fn accepted_byte_form() {
     let expected = "\
-vpshufb xmm25{k5}, xmm2, xmmword ptr [mem]
+vpshufb xmm25{k5}, xmm2, xmmword ptr [rax + 0x100]
 length:        7 bytes
 memory:        16 bytes
 encoding:      EVEX
 vector width:  128 bits
 destination:   xmm25
 first source:  xmm2
-third operand: memory
+third operand: [rax + 0x100]
 opmask:        k5
 masked off:    elements are merged
 broadcast:     none
@@ -112,22 +112,22 @@ fn document_01s_instructions_are_written_as_an_assembler_would() {
         ("C5 F9 70 CA 1B", "vpshufd xmm1, xmm2, 0x1b"),
         (
             "C5 F9 70 44 88 10 1B",
-            "vpshufd xmm0, xmmword ptr [mem], 0x1b",
+            "vpshufd xmm0, xmmword ptr [rax + rcx*4 + 0x10], 0x1b",
         ),
         (
             "62 F1 7D 58 70 08 00",
-            "vpshufd zmm1, dword ptr [mem]{1to16}, 0x00",
+            "vpshufd zmm1, dword ptr [rax]{1to16}, 0x00",
         ),
         ("62 81 7D 48 70 CA 1B", "vpshufd zmm17, zmm26, 0x1b"),
         ("C4 E3 7D 05 CA 05", "vpermilpd ymm1, ymm2, 0x05"),
         ("C4 E2 69 0D CB", "vpermilpd xmm1, xmm2, xmm3"),
         ("62 F2 6D 48 8D CB", "vpermb zmm1, zmm2, zmm3"),
-        ("62 F2 6D 48 8D 08", "vpermb zmm1, zmm2, zmmword ptr [mem]"),
+        ("62 F2 6D 48 8D 08", "vpermb zmm1, zmm2, zmmword ptr [rax]"),
         ("C5 E8 14 CB", "vunpcklps xmm1, xmm2, xmm3"),
         ("C4 E3 6D 06 CB 88", "vperm2f128 ymm1, ymm2, ymm3, 0x88"),
         (
             "C4 E3 6D 06 08 31",
-            "vperm2f128 ymm1, ymm2, ymmword ptr [mem], 0x31",
+            "vperm2f128 ymm1, ymm2, ymmword ptr [rax], 0x31",
         ),
     ]);
 }
@@ -138,30 +138,100 @@ fn request_1s_instructions_are_written_as_an_assembler_would() {
         ("C4 E3 79 04 CA 1B", "vpermilps xmm1, xmm2, 0x1b"),
         (
             "62 F3 7D 58 04 08 1B",
-            "vpermilps zmm1, dword ptr [mem]{1to16}, 0x1b",
+            "vpermilps zmm1, dword ptr [rax]{1to16}, 0x1b",
         ),
         ("C4 E2 6D 0C CB", "vpermilps ymm1, ymm2, ymm3"),
         (
             "62 F2 6D 18 0C 08",
-            "vpermilps xmm1, xmm2, dword ptr [mem]{1to4}",
+            "vpermilps xmm1, xmm2, dword ptr [rax]{1to4}",
         ),
         ("C5 E8 15 CB", "vunpckhps xmm1, xmm2, xmm3"),
         (
             "62 F1 6C 38 15 08",
-            "vunpckhps ymm1, ymm2, dword ptr [mem]{1to8}",
+            "vunpckhps ymm1, ymm2, dword ptr [rax]{1to8}",
         ),
         ("C5 E9 14 CB", "vunpcklpd xmm1, xmm2, xmm3"),
         ("C4 E1 E9 14 CB", "vunpcklpd xmm1, xmm2, xmm3"),
         ("62 F1 ED 48 14 CB", "vunpcklpd zmm1, zmm2, zmm3"),
-        ("C5 ED 15 08", "vunpckhpd ymm1, ymm2, ymmword ptr [mem]"),
+        ("C5 ED 15 08", "vunpckhpd ymm1, ymm2, ymmword ptr [rax]"),
         (
             "62 F1 ED 18 15 08",
-            "vunpckhpd xmm1, xmm2, qword ptr [mem]{1to2}",
+            "vunpckhpd xmm1, xmm2, qword ptr [rax]{1to2}",
         ),
         ("C4 E2 69 00 CB", "vpshufb xmm1, xmm2, xmm3"),
         ("62 F2 6D 48 00 CB", "vpshufb zmm1, zmm2, zmm3"),
         ("62 F2 ED 48 00 CB", "vpshufb zmm1, zmm2, zmm3"),
-        ("62 F2 6D 48 00 08", "vpshufb zmm1, zmm2, zmmword ptr [mem]"),
+        ("62 F2 6D 48 00 08", "vpshufb zmm1, zmm2, zmmword ptr [rax]"),
+    ]);
+}
+
+/// vunpcklps xmm1, xmm2 and memory, which every prefix has.
+#[test]
+fn memory_is_written_as_an_assembler_would() {
+    let operands = [
+        ("C5 E8 14 08", "[rax]"),
+        ("C4 C1 68 14 08", "[r8]"),
+        ("C5 E8 14 0C 24", "[rsp]"),
+        ("C4 C1 68 14 0C 24", "[r12]"),
+        ("C5 E8 14 4D 00", "[rbp]"),
+        ("C4 C1 68 14 4D 00", "[r13]"),
+        ("C5 E8 14 4D 7F", "[rbp + 0x7f]"),
+        ("C5 E8 14 4D 80", "[rbp - 0x80]"),
+        ("C5 E8 14 8B 00 00 00 80", "[rbx - 0x80000000]"),
+        ("C5 E8 14 8B FF FF FF 7F", "[rbx + 0x7fffffff]"),
+        ("C5 E8 14 0C 08", "[rax + rcx*1]"),
+        ("C5 E8 14 0C 4D 00 00 00 00", "[rcx*2]"),
+        ("C5 E8 14 0C CD 10 00 00 00", "[rcx*8 + 0x10]"),
+        ("C4 A1 68 14 4C A3 C0", "[rbx + r12*4 - 0x40]"),
+        ("C4 81 68 14 4C E5 01", "[r13 + r12*8 + 0x1]"),
+        ("C4 C1 68 14 0C 65 10 00 00 00", "[0x10]"),
+        ("C5 E8 14 0C 25 00 00 00 80", "[0xffffffff80000000]"),
+        ("C5 E8 14 0C 25 00 00 00 00", "[0x0]"),
+        ("C5 E8 14 0D 10 00 00 00", "[rip + 0x10]"),
+        ("C4 C1 68 14 0D F0 FF FF FF", "[rip - 0x10]"),
+        ("C5 E8 14 0D 00 00 00 00", "[rip]"),
+        ("62 F1 6C 08 14 48 FF", "[rax - 0x10]"),
+    ];
+    for (bytes, operand) in operands {
+        let expected = format!("vunpcklps xmm1, xmm2, xmmword ptr {operand}");
+        assert_eq!(instruction(bytes), expected, "{bytes}");
+        let third = format!("\nthird operand: {operand}\n");
+        assert!(printed(&["decode", bytes]).contains(&third), "{bytes}");
+    }
+}
+
+/// EVEX counts a displacement of one byte in what is read; it is written in bytes.
+#[test]
+fn displacements_are_written_in_bytes() {
+    assert_written(&[
+        (
+            "62 F1 6C 48 14 48 80",
+            "vunpcklps zmm1, zmm2, zmmword ptr [rax - 0x2000]",
+        ),
+        (
+            "62 F1 6C 48 14 48 FF",
+            "vunpcklps zmm1, zmm2, zmmword ptr [rax - 0x40]",
+        ),
+        (
+            "62 F1 6C 48 14 48 7F",
+            "vunpcklps zmm1, zmm2, zmmword ptr [rax + 0x1fc0]",
+        ),
+        (
+            "62 F1 6C 28 14 48 01",
+            "vunpcklps ymm1, ymm2, ymmword ptr [rax + 0x20]",
+        ),
+        (
+            "62 F1 6C 58 14 48 FF",
+            "vunpcklps zmm1, zmm2, dword ptr [rax - 0x4]{1to16}",
+        ),
+        (
+            "62 F1 ED 58 14 48 FF",
+            "vunpcklpd zmm1, zmm2, qword ptr [rax - 0x8]{1to8}",
+        ),
+        (
+            "62 F1 6C 48 14 88 FF FF FF FF",
+            "vunpcklps zmm1, zmm2, zmmword ptr [rax - 0x1]",
+        ),
     ]);
 }
 

@@ -1,5 +1,6 @@
 //! Drives the built command as a user does: arguments, standard input, files, exit status, output.
 
+mod address;
 mod audit;
 mod compare;
 mod decode;

@@ -6,7 +6,9 @@ use std::fs::{File, OpenOptions};
 use std::os::unix::ffi::OsStringExt;
 use std::process::{Command, Stdio};
 
-const COMMANDS: [&str; 6] = ["list", "decode", "run", "map", "compare", "audit"];
+const COMMANDS: [&str; 7] = [
+    "list", "decode", "address", "run", "map", "compare", "audit",
+];
 
 #[test]
 fn overview_is_printed_when_asked_for_and_when_nothing_is() {
@@ -28,7 +30,7 @@ fn help_names_every_instruction_and_feature() {
     for name in names {
         assert_eq!(overview.matches(name).count(), 1, "{name}");
     }
-    for command in ["decode", "run", "map", "compare"] {
+    for command in ["decode", "address", "run", "map", "compare"] {
         let help = printed(&["help", command]);
         let words: Vec<_> = help.split([' ', ',', '\n']).collect();
         for (name, _) in tarhuspo::features::NAMED {
@@ -48,7 +50,7 @@ fn help_has_the_reasons() {
             assert_eq!(help.matches(&line).count(), 1, "{line} in {command}");
         }
     }
-    for command in ["run", "map", "compare"] {
+    for command in ["address", "run", "map", "compare"] {
         let help = printed(&["help", command]);
         let words: Vec<_> = help.split_whitespace().collect();
         let pointer = "reason: tarhuspo help decode lists them.";
@@ -90,7 +92,7 @@ fn each_command_has_help() {
 /// The examples in the help do what they are there for.
 #[test]
 fn examples_of_the_help_work() {
-    for command in ["list", "decode", "compare"] {
+    for command in ["list", "decode", "address", "compare"] {
         let help = printed(&["help", command]);
         let mut examples = help
             .lines()
@@ -106,7 +108,7 @@ fn examples_of_the_help_work() {
 
 #[test]
 fn unknown_commands_are_bad_usage() {
-    let names = "list, decode, run, map, compare, audit or help";
+    let names = "list, decode, address, run, map, compare, audit or help";
     for arguments in [&["encode"][..], &["help", "encode"]] {
         let message = format!("expected a command ({names}), not 'encode'");
         assert_bad_usage(arguments, &message);
@@ -135,6 +137,9 @@ fn arguments_that_are_no_text_are_bad_usage() {
     for before in [
         &["decode"][..],
         &["decode", "90", "--features"],
+        &["address"],
+        &["address", "90", "--gpr"],
+        &["address", "90", "--at"],
         &["map"],
         &["run", "hex:", "--budget"],
         &["list"],

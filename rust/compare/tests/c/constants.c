@@ -29,6 +29,7 @@ int main(void)
     PRINT(REASON_Z);
     PRINT(FILE_SIZE);
     PRINT(MASK_COUNT);
+    PRINT(GPR_COUNT);
     PRINT(MAP_SIZE);
     PRINT(MAP_ZERO);
     PRINT(CODE_LIMIT);

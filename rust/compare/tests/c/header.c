@@ -26,6 +26,12 @@ FIELD(tarhuspo_decoded, has_immediate, 48);
 FIELD(tarhuspo_decoded, immediate, 52);
 FIELD(tarhuspo_decoded, reason, 56);
 
+SIZE(tarhuspo_addressed, 24);
+FIELD(tarhuspo_addressed, address, 0);
+FIELD(tarhuspo_addressed, status, 8);
+FIELD(tarhuspo_addressed, reason, 12);
+FIELD(tarhuspo_addressed, has_address, 16);
+
 SIZE(tarhuspo_stepped, 12);
 FIELD(tarhuspo_stepped, status, 0);
 FIELD(tarhuspo_stepped, length, 4);
@@ -71,6 +77,36 @@ static void decode(void)
     print("without avx512bw", tarhuspo_decode(vpshufb, sizeof vpshufb, 63 - TARHUSPO_AVX512BW));
     print("z", tarhuspo_decode(z, sizeof z, 63));
     print("b and z", tarhuspo_decode(b_and_z, sizeof b_and_z, 0));
+}
+
+static void print_address(const char *name, tarhuspo_addressed a)
+{
+    printf("%s: %u %u %u %016" PRIx64 "\n", name, a.status, a.reason, a.has_address, a.address);
+}
+
+static void address(void)
+{
+    /* vpshufd zmm1, [rbx + r12*4 - 0x2000], 0x1b */
+    const uint8_t code[] = {0x62, 0xB1, 0x7D, 0x48, 0x70, 0x4C, 0xA3, 0x80, 0x1B};
+    /* vunpcklps xmm1, xmm2, [rip - 0x10] */
+    const uint8_t next[] = {0xC5, 0xE8, 0x14, 0x0D, 0xF0, 0xFF, 0xFF, 0xFF};
+    /* vpshufd xmm1, xmm2, 0x1b */
+    const uint8_t form[] = {0xC5, 0xF9, 0x70, 0xCA, 0x1B};
+    /* vpshufb with z and no opmask */
+    const uint8_t z[] = {0x62, 0xF2, 0x6D, 0xC8, 0x00, 0x08};
+    uint64_t registers[TARHUSPO_GPR_COUNT] = {0};
+    const size_t count = TARHUSPO_GPR_COUNT;
+
+    registers[3] = 0xC000;
+    registers[12] = 8;
+    print_address("address", tarhuspo_address(code, sizeof code, 63, registers, count, 0));
+    print_address("next instruction", tarhuspo_address(next, sizeof next, 63, registers, count, 6));
+    print_address("register form", tarhuspo_address(form, sizeof form, 63, registers, count, 6));
+    print_address("fifteen registers",
+                  tarhuspo_address(code, sizeof code, 63, registers, count - 1, 0));
+    print_address("short address",
+                  tarhuspo_address(code, sizeof code - 1, 63, registers, count, 0));
+    print_address("reserved address", tarhuspo_address(z, sizeof z, 0, registers, count, 0));
 }
 
 /* vunpcklps xmm1, xmm2, xmm3; vperm2f128 with L 0 */
@@ -175,6 +211,7 @@ static void listing(void)
 int main(void)
 {
     decode();
+    address();
     step();
     run();
     bytemap();

@@ -3,7 +3,8 @@
 use crate::sample::Sample;
 use crate::support::{Random, ALL};
 use reference::{
-    apply, build, compose, decode, listing, reserved_field, run, step, Decoded, Field,
+    address, apply, build, compose, decode, listing, reserved_field, run, step, Addressed, Decoded,
+    Field,
 };
 
 const SIZES: [usize; 8] = [0, 1, 2_047, 2_048, 2_048, 2_048, 2_049, 4_097];
@@ -87,6 +88,35 @@ fn decoding_and_stepping() {
         if stepped.status != 0 {
             assert_eq!(stepped.length, 0);
             assert!(file == start);
+        }
+    }
+}
+
+#[test]
+fn addresses() {
+    let mut random = Random(13);
+    for _ in 0..20_000 {
+        let code = code(&mut random);
+        let features = features(&mut random);
+        let count = random.pick(&[16, 16, 16, 0, 15, 17]);
+        let registers: Vec<_> = (0..count).map(|_| random.word()).collect();
+        let found = address(&code, features, &registers, random.word());
+        check_reason(found.status, found.reason);
+        let decoded = decode(&code, features);
+        let expected = match count {
+            16 => (decoded.status, decoded.reason),
+            _ => (1, 0),
+        };
+        assert_eq!((found.status, found.reason), expected);
+        assert_eq!(found.has_address, expected.0 == 0 && decoded.memory > 0);
+        if !found.has_address {
+            let (status, reason) = expected;
+            let none = Addressed {
+                status,
+                reason,
+                ..Addressed::default()
+            };
+            assert_eq!(found, none);
         }
     }
 }

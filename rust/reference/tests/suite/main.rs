@@ -1,5 +1,6 @@
-//! Tests of the reference against document 01, requests 1 and 3 and the manual pages.
+//! Tests of the reference against document 01, requests 1, 3 and 4 and the manual pages.
 
+mod addresses;
 mod any_input;
 mod bytemaps;
 mod case_table;

@@ -116,7 +116,7 @@ pub struct Sample {
     pub zeroing: bool,
     pub broadcast: bool,
     pub immediate: u8,
-    /// Bits that do not matter: X and B of a memory form, X of a VEX register form.
+    /// Bits that do not matter to decoding: X and B of a memory form, X of a VEX register form.
     pub spare: u8,
 }
 

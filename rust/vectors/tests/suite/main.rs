@@ -1,5 +1,6 @@
 //! The stored vectors, and the inputs in them.
 
+mod addresses;
 mod reasons;
 mod samples;
 mod stored;

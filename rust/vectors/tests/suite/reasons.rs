@@ -7,7 +7,7 @@ use inputs::reserved::possible_pairs;
 use std::collections::BTreeMap;
 use vectors::lists::{ListInput, Listing};
 use vectors::section::{Input, Samples};
-use vectors::{decode_inputs, list_inputs, step_inputs};
+use vectors::{address_inputs, decode_inputs, list_inputs, step_inputs};
 
 /// Of each reason, and of each pair.
 const LEAST_OF_EACH: u64 = 24;
@@ -16,7 +16,7 @@ const LEAST_OF_EACH: u64 = 24;
 fn every_reason_has_dozens_of_inputs() {
     for section in &vectors().sections {
         let (name, reasons) = (section.name, section.reasons);
-        let gives_one = ["decode", "step", "run", "build"].contains(&name);
+        let gives_one = ["decode", "step", "run", "build", "address"].contains(&name);
         if !gives_one {
             assert_eq!(reasons.sum(), 0, "{name}");
             continue;
@@ -87,6 +87,8 @@ fn every_pair_of_wrong_fields_has_dozens_of_inputs() {
     expect_pairs("decode", all(&samples).map(|input| &input.code[..]));
     let samples = step_inputs();
     expect_pairs("step", all(&samples).map(|input| &input.code[..]));
+    let samples = address_inputs();
+    expect_pairs("address", all(&samples).map(|input| &input.code[..]));
     let samples = list_inputs();
     expect_pairs(
         "lists",

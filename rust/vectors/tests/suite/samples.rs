@@ -8,7 +8,7 @@ use std::collections::BTreeSet;
 use vectors::layout::{CODE_ROOM, INPUTS};
 use vectors::lists::{Build, ListInput, Listing, Run};
 use vectors::section::{Input, Samples};
-use vectors::{decode_inputs, list_inputs, step_inputs};
+use vectors::{address_inputs, decode_inputs, list_inputs, step_inputs};
 
 /// Of each status that an entry point can answer.
 const LEAST_OF_EACH: u64 = 36;
@@ -17,7 +17,7 @@ const LEAST_OF_EACH: u64 = 36;
 fn every_status_has_dozens_of_inputs() {
     let sections = &vectors().sections;
     let names: Vec<_> = sections.iter().map(|section| section.name).collect();
-    let wanted = "decode step run build apply compose listing";
+    let wanted = "decode step run build apply compose listing address";
     assert_eq!(names.join(" "), wanted);
     for section in sections {
         let (name, counts) = (section.name, section.counts());
@@ -64,7 +64,7 @@ fn expect_every_form<'a>(what: &str, codes: impl Iterator<Item = (&'a [u8], u32)
 }
 
 #[test]
-fn every_form_is_decoded_and_carried_out() {
+fn every_form_is_decoded_carried_out_and_addressed() {
     let samples = decode_inputs();
     let inputs = samples.iter().flat_map(|(_, inputs)| inputs);
     expect_every_form("decoding", inputs.map(|i| (&i.code[..], i.features)));
@@ -72,6 +72,9 @@ fn every_form_is_decoded_and_carried_out() {
     let accepted = samples.iter().filter(|(kind, _)| *kind == "accepted");
     let inputs = accepted.flat_map(|(_, inputs)| inputs);
     expect_every_form("the step", inputs.map(|i| (&i.code[..], i.features)));
+    let samples = address_inputs();
+    let inputs = samples.iter().flat_map(|(_, inputs)| inputs);
+    expect_every_form("the address", inputs.map(|i| (&i.code[..], i.features)));
 }
 
 /// Kinds of which no input, or hardly one, is an instruction as the table has it.
@@ -113,6 +116,7 @@ fn expect_rows<I>(samples: &Samples<I>, code: fn(&I) -> &[u8], most: usize, leas
 fn every_kind_has_every_row() {
     expect_rows(&decode_inputs(), |input| &input.code, 1, ROWS.len());
     expect_rows(&step_inputs(), |input| &input.code, 1, ROWS.len());
+    expect_rows(&address_inputs(), |input| &input.code, 1, ROWS.len());
     // Most lists are made of steps that a byte map can describe.
     let mappable = ROWS.iter().filter(|row| row.control.is_none()).count();
     let lists = list_inputs();

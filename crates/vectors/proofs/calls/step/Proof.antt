@@ -16,7 +16,7 @@ returns c =
     let e = f .before .before in
     let o = e .before in
     let s = o .before in
-    rw (← s .before .before .u16-at .ensures, le-ltb 2544 _ (o .if1 .left), ← s .before .byte-at .ensures, le-ltb 16 _ (e .if2 .left))
+    rw (← s .before .before .u16-at .ensures, le-ltb 2544 _ (o .if1 .left), ← s .before .byte-at .ensures, le-ltb 24 _ (e .if2 .left))
     (rw (← s .byte-at2 .ensures, ← f .before .u16-at2 .ensures, ← f .file .ensures, ← m .before .byte-at3 .ensures, ← m .masks .ensures, ← y .before .u16-at3 .ensures, ← y .memory .ensures, ← b .u32-at .ensures)
     (calls _ _ _ _ _ (t .tarhuspo-step .ensures .0) (t .tarhuspo-step .ensures .1) (c .file-digest .ensures)))
 
@@ -31,7 +31,7 @@ step-spec =
     (λ c κs. search needs)
     (λ c. search needs)
     (λ c. rw (← c .before .before .before .u16-at .ensures, lt-ltb 2544 _ (c .if1 .taken)))
-    (λ c. rw (← c .before .before .before .before .u16-at .ensures, le-ltb 2544 _ (c .before .if1 .left), ← c .before .before .before .byte-at .ensures, lt-ltb 16 _ (c .if2 .taken)))
+    (λ c. rw (← c .before .before .before .before .u16-at .ensures, le-ltb 2544 _ (c .before .if1 .left), ← c .before .before .before .byte-at .ensures, lt-ltb 24 _ (c .if2 .taken)))
     (λ c κs. search needs)
     (λ c κs. search needs)
     (λ c κs. search needs)
