@@ -8,6 +8,7 @@ use lib.ListN.{length}
 use borrow.Author.Tests.{eq-eqb, le-ltb}
 use Rattle.isa.specs.declared.kinds.Reg.{Reg}
 use Rattle.isa.specs.declared.refusal.Refusal.{Refusal}
+use Rattle.isa.specs.declared.refusal.Refusal.the-variants.{Argument}
 use Rattle.decode.specs.Decode.{decodeOf}
 use Rattle.decode.specs.declared.instruction.Third.{Third}
 use Rattle.decode.specs.declared.instruction.Instruction.{Instruction}
@@ -15,6 +16,7 @@ use Rattle.decode.specs.declared.instruction.Decoded.{Decoded}
 use Rattle.address.specs.Displacement.{wrapped, signedOf}
 use Rattle.address.specs.Operand.{gprCount, operandOf}
 use Rattle.address.specs.Address.{valueIn, baseValue, indexValue, sumOf, locatedOf, onDecoded, addressOf}
+use Rattle.address.proofs.Compose.{other-count}
 use Rattle.address.specs.declared.operand.Gpr.{Gpr}
 use Rattle.address.specs.declared.operand.Scale.{Scale}
 use Rattle.address.specs.declared.operand.Base.{Base}
@@ -34,6 +36,10 @@ below-zero values d unit v h l =
     rw (le-ltb d (values / 2) h) (omega (arith, rw all at sum))
 
 -- ---- rule 10.1
+
+-- another number of registers is 1, whatever else is wrong
+pub count-first : (code : List ℕ) (features : ℕ) (registers : List ℕ) (at : ℕ) → (length registers ≡ gprCount → ⊥) → addressOf code features registers at ≡ Addressed.Refused Argument
+count-first code features registers at h = sym (other-count code features registers at h)
 
 module _ (code : List ℕ) (features : ℕ) (registers : List ℕ) (at : ℕ) (sixteen : length registers ≡ gprCount) where
   on-decoded : addressOf code features registers at ≡ onDecoded (decodeOf code features) code registers at

@@ -1,9 +1,11 @@
 -- Section 10 of the rules, computed: whole addresses from bytes. In `registers` register k holds 65,536 · 2^k, so that a sum shows what it is made of,
 -- and the instruction stands at 16,384. A negative number is written as 2^64 less.
-use Prim.Native.Nat.{ℕ, _+_, _-_, _*_, _^_}
+use Prim.Native.Nat.{ℕ, _+_, _-_, _*_, _/_, _%_, _^_}
 use mathlib.Core.Path.{_≡_, refl}
 use mathlib.Core.List.{List, [], _∷_, map}
+use lib.Dec.{eqb}
 use lib.ListN.{replicate}
+use Rattle.seq.specs.Choice.{if_then_else_}
 use Rattle.seq.specs.Tabulate.{tabulate}
 use Rattle.isa.specs.Features.{allFeatures, hasFeature}
 use Rattle.isa.specs.Operands.{widthOf, elementOf, digitsOf, halfOf, moveFrom, controlOf}
@@ -113,6 +115,22 @@ baseless =
     ∷ at (0xC5 ∷ 0xF9 ∷ 0x70 ∷ 0x0C ∷ 0xCD ∷ 0x10 ∷ 0x00 ∷ 0x00 ∷ 0x00 ∷ 0x1B ∷ []) (8 * held 1 + 16)
     ∷ []
 
+-- ---- every register
+
+-- as base of a SIB with a displacement of 0, under VEX and EVEX
+abbrev pub withBase : ℕ → List (List ℕ)
+withBase k =
+    (0xC4 ∷ (0xE1 - 32 * (k / 8)) ∷ 0x79 ∷ 0x70 ∷ 0x4C ∷ (0x20 + k % 8) ∷ 0x00 ∷ 0x1B ∷ [])
+    ∷ (0x62 ∷ (0xF1 - 32 * (k / 8)) ∷ 0x7D ∷ 0x48 ∷ 0x70 ∷ 0x4C ∷ (0x20 + k % 8) ∷ 0x00 ∷ 0x1B ∷ [])
+    ∷ []
+
+-- as index of a SIB without base
+abbrev pub withIndex : ℕ → List (List ℕ)
+withIndex k =
+    (0xC4 ∷ (0xE1 - 64 * (k / 8)) ∷ 0x79 ∷ 0x70 ∷ 0x0C ∷ (0x05 + 8 * (k % 8)) ∷ 0x00 ∷ 0x00 ∷ 0x00 ∷ 0x00 ∷ 0x1B ∷ [])
+    ∷ (0x62 ∷ (0xF1 - 64 * (k / 8)) ∷ 0x7D ∷ 0x48 ∷ 0x70 ∷ 0x0C ∷ (0x05 + 8 * (k % 8)) ∷ 0x00 ∷ 0x00 ∷ 0x00 ∷ 0x00 ∷ 0x1B ∷ [])
+    ∷ []
+
 -- ---- rule 10.8: sums that wrap
 
 -- with -1 in every register: -1 - 8 + 127; -1 + 1; -1 - 128
@@ -158,16 +176,25 @@ expected = map (λ (e : Example). e .gives)
 abbrev pub all : ℕ → List ℕ
 all value = replicate 16 value
 
+-- sixteen pairs of encodings, and what both of each give
+abbrev pub places : (ℕ → List (List ℕ)) → List (List Addressed)
+places codes = tabulate 16 (λ k. map (λ (code : List ℕ). addressOf code allFeatures registers place) (codes k))
+
+abbrev pub pairs : (ℕ → ℕ) → List (List Addressed)
+pairs value = tabulate 16 (λ k. Addressed.At (value k) ∷ Addressed.At (value k) ∷ [])
+
 pub record Examples : Type 0 where
   pub displaced : answered (all 0) place displacements ≡ expected displacements
   pub based : answered registers place bases ≡ expected bases
   pub indexed : answered registers place indexes ≡ expected indexes
   pub without-base : answered registers place baseless ≡ expected baseless
+  pub every-base : places withBase ≡ pairs held
+  pub every-index : places withIndex ≡ pairs (λ k. if eqb k 4 then 0 else held k)
   pub wrapping : answered (all (2 ^ 64 - 1)) place wraps ≡ expected wraps
   pub turning : answered registers (2 ^ 64 - 4) turns ≡ expected turns
   pub otherwise : answered registers place others ≡ expected others
   -- other than sixteen registers, and features over the limit, before anything else; a missing feature last
-  pub fifteen : addressOf [] 64 (replicate 15 0) 0 ≡ Addressed.Refused Argument
+  pub fifteen : addressOf [] allFeatures (replicate 15 0) 0 ≡ Addressed.Refused Argument
   pub seventeen : addressOf (0xC5 ∷ 0xF9 ∷ 0x70 ∷ 0xCA ∷ 0x1B ∷ []) allFeatures (replicate 17 0) 0 ≡ Addressed.Refused Argument
   pub features : addressOf [] 64 (all 0) 0 ≡ Addressed.Refused Argument
   pub missing : addressOf (0xC5 ∷ 0xF9 ∷ 0x70 ∷ 0x48 ∷ 0x80 ∷ 0x1B ∷ []) 62 (all 0) 0 ≡ Addressed.Refused Feature
@@ -180,6 +207,8 @@ examples =
       based = refl;
       indexed = refl;
       without-base = refl;
+      every-base = refl;
+      every-index = refl;
       wrapping = refl;
       turning = refl;
       otherwise = refl;
