@@ -20,7 +20,7 @@ use Rattle.step.proofs.Laws.{carried-out}
 use Rattle.step.specs.declared.Stepped.{Stepped}
 use Rattle.address.specs.declared.Addressed.{Addressed}
 use Rattle.tarhuspo.specs.Stepped.{steppedOf}
-use Rattle.tarhuspo.specs.Addressed.{noAddress, addressedOf}
+use Rattle.tarhuspo.specs.Addressed.{anAddress, noAddress, addressedOf}
 use Rattle.tarhuspo.specs.declared.TarhuspoAddressed.{TarhuspoAddressed}
 use Rattle.tarhuspo.specs.declared.TarhuspoStepped.{TarhuspoStepped}
 use Rattle.tarhuspo.specs.Decoded.{encodingNumber, firstNumber, thirdNumber, hasImmediate, immediateNumber, flag, acceptedOf, refusedOf, decodedOf}
@@ -64,8 +64,8 @@ module _ (code masks : List ℕ) (features : ℕ) (memory file : List ℕ) (k : 
   refuses why q s r e g = rw (← p, q, e, g)
 
 module _ (k want : Addressed) (p : k ≡ want) where
-  pub gives-address : (a : ℕ) → k ≡ Addressed.At a → _≡_ {A = TarhuspoAddressed} (record { address = a; status = 0; reason = 0; «has_address» = 1 }) (addressedOf want)
-  gives-address a q = rw (← p, q)
+  pub gives-address : (a : ℕ) → k ≡ Addressed.At a → (r : TarhuspoAddressed) → r ≡ anAddress a → r ≡ addressedOf want
+  gives-address a q r e = rw (← p, q) e
 
   pub gives-none : k ≡ Addressed.Nowhere → (r : TarhuspoAddressed) → r ≡ noAddress 0 0 → r ≡ addressedOf want
   gives-none q r e = rw (← p, q) e

@@ -4,10 +4,13 @@ use Rattle.isa.specs.Refusal.{statusOf, reasonOf}
 use Rattle.address.specs.declared.Addressed.{Addressed}
 use Rattle.tarhuspo.specs.declared.TarhuspoAddressed.{TarhuspoAddressed}
 
+abbrev pub anAddress : ℕ → TarhuspoAddressed
+anAddress address = record { address = address; status = 0; reason = 0; «has_address» = 1 }
+
 abbrev pub noAddress : ℕ → ℕ → TarhuspoAddressed
 noAddress status reason = record { address = 0; status = status; reason = reason; «has_address» = 0 }
 
 abbrev pub addressedOf : Addressed → TarhuspoAddressed
-addressedOf (Addressed.At a) = record { address = a; status = 0; reason = 0; «has_address» = 1 }
+addressedOf (Addressed.At address) = anAddress address
 addressedOf Addressed.Nowhere = noAddress 0 0
 addressedOf (Addressed.Refused why) = noAddress (statusOf why) (reasonOf why)

@@ -1,5 +1,5 @@
--- Rules 5.1, 5.12, 5.13, 6.5 and 7.5 as C sees them: the number of each refusal in every answer, with that of the wrong field (rule 5.11), and worked cases' decodings with their fields in the
--- struct's order. All are proved by computing.
+-- Rules 5.1, 5.12, 5.13, 6.5, 7.5 and 10.1 as C sees them: the number of each refusal in every answer, with that of the wrong field (rule 5.11), and worked
+-- cases' decodings with their fields in the struct's order. All are proved by computing.
 use Prim.Native.Nat.{ℕ}
 use mathlib.Core.Path.{_≡_, refl}
 use mathlib.Core.List.{List, [], _∷_, _++_, map}
@@ -17,12 +17,15 @@ use Rattle.decode.specs.Instruction.{encodingOf, firstOf, thirdOf, immediateOf,
 use Rattle.decode.specs.Decode.{finishOf, onTotal, onRow, onHead, knownOf, decodeOf}
 use Rattle.decode.specs.declared.instruction.Decoded.{Decoded}
 use Rattle.step.specs.declared.Stepped.{Stepped}
+use Rattle.address.specs.declared.Addressed.{Addressed}
 use Rattle.run.specs.declared.Answer.{Answer}
 use Rattle.tarhuspo.specs.Decoded.{acceptedOf, refusedOf, decodedOf}
 use Rattle.tarhuspo.specs.Stepped.{steppedOf}
+use Rattle.tarhuspo.specs.Addressed.{addressedOf}
 use Rattle.tarhuspo.specs.Lists.{answerStatus, answerReason, ranOf, builtOf, listedOf}
 use Rattle.tarhuspo.specs.declared.TarhuspoDecoded.{TarhuspoDecoded}
 use Rattle.tarhuspo.specs.declared.TarhuspoStepped.{TarhuspoStepped}
+use Rattle.tarhuspo.specs.declared.TarhuspoAddressed.{TarhuspoAddressed}
 use Rattle.tarhuspo.specs.declared.TarhuspoRan.{TarhuspoRan}
 use Rattle.tarhuspo.specs.declared.TarhuspoBuilt.{TarhuspoBuilt}
 use Rattle.tarhuspo.specs.declared.TarhuspoListed.{TarhuspoListed}
@@ -35,6 +38,9 @@ decodedFields d =
 
 abbrev pub steppedFields : TarhuspoStepped → List ℕ
 steppedFields s = s .status ∷ s .length ∷ s .reason ∷ []
+
+abbrev pub addressedFields : TarhuspoAddressed → List ℕ
+addressedFields a = a .address ∷ a .status ∷ a .reason ∷ a .«has_address» ∷ []
 
 abbrev pub ranFields : TarhuspoRan → List ℕ
 ranFields r = r .steps ∷ r .place ∷ r .status ∷ r .reason ∷ []
@@ -74,6 +80,11 @@ decodings-refused = refl
 
 pub steps-answered : map (λ (s : Stepped). steppedFields (steppedOf s)) (Stepped.Done 7 ∷ map Stepped.Refused refusals) ≡ (0 ∷ 7 ∷ 0 ∷ []) ∷ map (λ (n : ℕ × ℕ). n .0 ∷ 0 ∷ n .1 ∷ []) numbers
 steps-answered = refl
+
+-- request 4: an address, none, and each refusal
+pub addresses-answered : map (λ (a : Addressed). addressedFields (addressedOf a)) (Addressed.At 4096 ∷ Addressed.Nowhere ∷ map Addressed.Refused refusals)
+    ≡ (4096 ∷ 0 ∷ 0 ∷ 1 ∷ []) ∷ (0 ∷ 0 ∷ 0 ∷ 0 ∷ []) ∷ map (λ (n : ℕ × ℕ). 0 ∷ n .0 ∷ n .1 ∷ 0 ∷ []) numbers
+addresses-answered = refl
 
 pub runs-answered : map (λ (a : Answer). ranFields (ranOf (record { steps = 2; place = 11; answer = a }))) answers ≡ map (λ (n : ℕ × ℕ). 2 ∷ 11 ∷ n .0 ∷ n .1 ∷ []) ((0, 0) ∷ numbers)
 runs-answered = refl

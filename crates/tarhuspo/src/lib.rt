@@ -8,7 +8,7 @@ ghost use Rattle.bytemap.specs.Build.{buildOf, mapBuilt};
 ghost use Rattle.bytemap.specs.ByteMap.{applyOf, fileApplied, composeOf, mapComposed};
 ghost use Rattle.address.specs.Address.{addressOf};
 ghost use Rattle.tarhuspo.specs.Stepped.{steppedOf};
-ghost use Rattle.tarhuspo.specs.Addressed.{noAddress, addressedOf};
+ghost use Rattle.tarhuspo.specs.Addressed.{anAddress, noAddress, addressedOf};
 ghost use Rattle.listing.specs.Listing.{listingOf, textAfter};
 ghost use Rattle.tarhuspo.specs.Lists.{answerStatus, answerReason, ranOf, builtOf, listedOf};
 ghost use Rattle.tarhuspo.specs.Decoded.{encodingNumber, firstNumber, thirdNumber, hasImmediate, immediateNumber, flag, acceptedOf, refusedOf, decodedOf};
@@ -309,6 +309,17 @@ pub struct TarhuspoAddressed {
     pub has_address: u32,
 }
 
+fn an_address(address: u64) -> TarhuspoAddressed
+    ensures { λ r. ⌜ r ≡ anAddress address ⌝ }
+{
+    TarhuspoAddressed {
+        address: address,
+        status: 0,
+        reason: 0,
+        has_address: 1,
+    }
+}
+
 fn no_address(status: u32, reason: u32) -> TarhuspoAddressed
     ensures { λ r. ⌜ r ≡ noAddress status reason ⌝ }
 {
@@ -330,12 +341,7 @@ pub extern "C" fn tarhuspo_address(
     ensures { λ r. ⌜ r ≡ addressedOf (addressOf (now (code .entry)) features (now (registers .entry)) «instruction_address») ⌝ }
 {
     match address::address(code, Features(features), registers, instruction_address) {
-        Addressed::At(place) => TarhuspoAddressed {
-            address: place,
-            status: 0,
-            reason: 0,
-            has_address: 1,
-        },
+        Addressed::At(place) => an_address(place),
         Addressed::Nowhere => no_address(0, 0),
         Addressed::Refused(why) => no_address(why.status(), why.reason()),
     }
