@@ -7,7 +7,6 @@ use Rattle.seq.specs.Choice.{if_then_else_}
 use Rattle.isa.specs.declared.refusal.Refusal.the-variants.{Argument}
 use Rattle.decode.specs.Decode.{decodeOf}
 use Rattle.decode.specs.declared.instruction.Third.{Third}
-use Rattle.decode.specs.declared.instruction.Instruction.{Instruction}
 use Rattle.decode.specs.declared.instruction.Decoded.{Decoded}
 use Rattle.address.specs.Displacement.{wrapped}
 use Rattle.address.specs.Operand.{gprCount, factorOf, operandOf}

@@ -42,7 +42,7 @@ fn line_counts_are_right() {
             parts += 1;
         }
     }
-    assert_eq!(parts, 5);
+    assert_eq!(parts, 6);
     let total = text
         .lines()
         .find(|line| line.contains(" files, in this order"));
