@@ -100,8 +100,8 @@ indexes =
     ∷ at (0xC5 ∷ 0xF9 ∷ 0x70 ∷ 0x0C ∷ 0xB6 ∷ 0x1B ∷ []) (5 * held 6)
     ∷ []
 
--- rule 10.3, mod 0: [rip] before and behind an immediate and without one, with B 1, negative, and under EVEX; then a SIB without base, with B 1, and
--- below 0; then with an index
+-- rule 10.3, mod 0: [rip] with an immediate and without one, with B 1, negative, and under EVEX without and with B 1; then a SIB without base, with B 1
+-- under VEX and EVEX, and below 0; then with an index
 unfoldable pub baseless : List Example
 baseless =
     at (0xC5 ∷ 0xF9 ∷ 0x70 ∷ 0x0D ∷ 0x00 ∷ 0x00 ∷ 0x00 ∷ 0x00 ∷ 0x1B ∷ []) (place + 9)
@@ -109,11 +109,39 @@ baseless =
     ∷ at (0xC4 ∷ 0xC1 ∷ 0x79 ∷ 0x70 ∷ 0x0D ∷ 0x78 ∷ 0x56 ∷ 0x34 ∷ 0x12 ∷ 0x1B ∷ []) (place + 10 + 0x12345678)
     ∷ at (0xC5 ∷ 0xF9 ∷ 0x70 ∷ 0x0D ∷ 0xF7 ∷ 0xFF ∷ 0xFF ∷ 0xFF ∷ 0x1B ∷ []) place
     ∷ at (0x62 ∷ 0xF1 ∷ 0x7D ∷ 0x48 ∷ 0x70 ∷ 0x0D ∷ 0x10 ∷ 0x00 ∷ 0x00 ∷ 0x00 ∷ 0x1B ∷ []) (place + 11 + 16)
+    ∷ at (0x62 ∷ 0xD1 ∷ 0x7D ∷ 0x48 ∷ 0x70 ∷ 0x0D ∷ 0x10 ∷ 0x00 ∷ 0x00 ∷ 0x00 ∷ 0x1B ∷ []) (place + 11 + 16)
     ∷ at (0xC5 ∷ 0xF9 ∷ 0x70 ∷ 0x0C ∷ 0x25 ∷ 0x78 ∷ 0x56 ∷ 0x34 ∷ 0x12 ∷ 0x1B ∷ []) 0x12345678
     ∷ at (0xC4 ∷ 0xC1 ∷ 0x79 ∷ 0x70 ∷ 0x0C ∷ 0x25 ∷ 0x78 ∷ 0x56 ∷ 0x34 ∷ 0x12 ∷ 0x1B ∷ []) 0x12345678
+    ∷ at (0x62 ∷ 0xD1 ∷ 0x7D ∷ 0x48 ∷ 0x70 ∷ 0x0C ∷ 0x25 ∷ 0x78 ∷ 0x56 ∷ 0x34 ∷ 0x12 ∷ 0x1B ∷ []) 0x12345678
     ∷ at (0xC5 ∷ 0xF9 ∷ 0x70 ∷ 0x0C ∷ 0x25 ∷ 0x00 ∷ 0x00 ∷ 0x00 ∷ 0x80 ∷ 0x1B ∷ []) (2 ^ 64 - 2147483648)
     ∷ at (0xC5 ∷ 0xF9 ∷ 0x70 ∷ 0x0C ∷ 0xCD ∷ 0x10 ∷ 0x00 ∷ 0x00 ∷ 0x00 ∷ 0x1B ∷ []) (8 * held 1 + 16)
     ∷ []
+
+-- ---- every mode and every scale
+
+-- ModRM m, and s behind it; zeros are the rest, the immediate included
+abbrev pub withZeros : ℕ → ℕ → List ℕ
+withZeros m s = 0xC4 ∷ 0xE1 ∷ 0x79 ∷ 0x70 ∷ m ∷ s ∷ 0 ∷ 0 ∷ 0 ∷ 0 ∷ 0 ∷ []
+
+-- mod k / 8 with rm k % 8. A SIB of zeros is [rax + rax·1]
+abbrev pub modes : List ℕ
+modes =
+    held 0 ∷ held 1 ∷ held 2 ∷ held 3 ∷ (2 * held 0) ∷ (place + 10) ∷ held 6 ∷ held 7
+    ∷ held 0 ∷ held 1 ∷ held 2 ∷ held 3 ∷ (2 * held 0) ∷ held 5 ∷ held 6 ∷ held 7
+    ∷ held 0 ∷ held 1 ∷ held 2 ∷ held 3 ∷ (2 * held 0) ∷ held 5 ∷ held 6 ∷ held 7
+    ∷ []
+
+-- mod k / 8 with a SIB whose base is k % 8, without index
+abbrev pub sibModes : List ℕ
+sibModes =
+    held 0 ∷ held 1 ∷ held 2 ∷ held 3 ∷ held 4 ∷ 0 ∷ held 6 ∷ held 7
+    ∷ held 0 ∷ held 1 ∷ held 2 ∷ held 3 ∷ held 4 ∷ held 5 ∷ held 6 ∷ held 7
+    ∷ held 0 ∷ held 1 ∷ held 2 ∷ held 3 ∷ held 4 ∷ held 5 ∷ held 6 ∷ held 7
+    ∷ []
+
+-- [rax] with index k % 8 and the scale of k / 8
+abbrev pub scaled : ℕ → ℕ
+scaled k = held 0 + (if eqb (k % 8) 4 then 0 else held (k % 8) * 2 ^ (k / 8))
 
 -- ---- every register
 
@@ -188,6 +216,9 @@ pub record Examples : Type 0 where
   pub based : answered registers place bases ≡ expected bases
   pub indexed : answered registers place indexes ≡ expected indexes
   pub without-base : answered registers place baseless ≡ expected baseless
+  pub every-mode : tabulate 24 (λ k. addressOf (withZeros (64 * (k / 8) + 8 + k % 8) 0) allFeatures registers place) ≡ map Addressed.At modes
+  pub every-sib-mode : tabulate 24 (λ k. addressOf (withZeros (64 * (k / 8) + 12) (0x20 + k % 8)) allFeatures registers place) ≡ map Addressed.At sibModes
+  pub every-scale : tabulate 32 (λ k. addressOf (withZeros 12 (8 * k)) allFeatures registers place) ≡ tabulate 32 (λ k. Addressed.At (scaled k))
   pub every-base : places withBase ≡ pairs held
   pub every-index : places withIndex ≡ pairs (λ k. if eqb k 4 then 0 else held k)
   pub wrapping : answered (all (2 ^ 64 - 1)) place wraps ≡ expected wraps
@@ -207,6 +238,9 @@ examples =
       based = refl;
       indexed = refl;
       without-base = refl;
+      every-mode = refl;
+      every-sib-mode = refl;
+      every-scale = refl;
       every-base = refl;
       every-index = refl;
       wrapping = refl;
