@@ -145,17 +145,19 @@ typedef struct {
  *
  * The address is base + scale * index + displacement, modulo 2^64, of which the encoding has:
  *
- *  - As base the register B.r/m, or B.base with a SIB byte. Mod 0 with r/m 5 has the address of the
- *    next instruction instead (instruction_address and the length, immediate included), and mod 0
- *    with SIB base 5 has no base, whatever B is.
+ *  - As base the register B.r/m, or B.base with a SIB byte. Where mod is 0, a 5 in r/m stands for
+ *    the address of the next instruction (instruction_address and the length, immediate included),
+ *    and a 5 in the SIB's base for nothing, whatever B is.
  *  - With a SIB byte, as index the register X.index, but none if that is 4. So index 4 with X 1 is
  *    r12. X and B are written inverted in the prefix, and are 0 if that is C5.
  *  - A signed displacement of 1 or 4 bytes, or none. Under EVEX one of 1 byte is multiplied by the
  *    bytes of the vector (16, 32 or 64), or with a broadcast by those of the element (4 or 8): at
  *    512 bits FF is -64. VEX does not multiply, and 4 bytes are never multiplied.
  *
- * Left out are segment bases, the address-size prefix 67, and whether the address is canonical. The
- * memory itself is not read. Writes to no memory but the result.
+ * Left out are segment bases, the address-size prefix 67, and whether the address is canonical. Code
+ * that begins with any such prefix is refused with 3: to skip one for fs or gs, pass the code and
+ * the instruction_address behind it, and add the segment's base to the address. The memory itself
+ * is not read. Writes to no memory but the result.
  */
 tarhuspo_addressed tarhuspo_address(const uint8_t *code, size_t code_len, uint32_t features,
                                     const uint64_t *registers, size_t registers_len,

@@ -45,8 +45,8 @@ held k = 65536 * 2 ^ k
 
 -- ---- displacements, with registers that all hold 0
 
--- rule 10.7, request 4's three numbers: [rax + ..] of 512 bits; the same bytes under VEX; b 1 with elements of 4 and of 8 bytes; 128 and 256 bits. Then
--- four bytes, which EVEX does not multiply
+-- rule 10.7, request 4's three numbers: [rax + ..] of 512 bits; the same bytes under VEX; b 1 with elements of 4 and of 8 bytes; 128 and 256 bits; 512
+-- bits of rows with elements of 8 bytes and of 1. Then four bytes, which EVEX does not multiply
 unfoldable pub displacements : List Example
 displacements =
     at (0x62 ∷ 0xF1 ∷ 0x7D ∷ 0x48 ∷ 0x70 ∷ 0x48 ∷ 0x80 ∷ 0x1B ∷ []) (2 ^ 64 - 8192)
@@ -62,6 +62,9 @@ displacements =
     ∷ at (0x62 ∷ 0xF3 ∷ 0xFD ∷ 0x58 ∷ 0x05 ∷ 0x48 ∷ 0x7F ∷ 0x01 ∷ []) 1016
     ∷ at (0x62 ∷ 0xF1 ∷ 0x7D ∷ 0x08 ∷ 0x70 ∷ 0x48 ∷ 0xFF ∷ 0x1B ∷ []) (2 ^ 64 - 16)
     ∷ at (0x62 ∷ 0xF1 ∷ 0x7D ∷ 0x28 ∷ 0x70 ∷ 0x48 ∷ 0xFF ∷ 0x1B ∷ []) (2 ^ 64 - 32)
+    ∷ at (0x62 ∷ 0xF3 ∷ 0xFD ∷ 0x48 ∷ 0x05 ∷ 0x48 ∷ 0xFF ∷ 0x01 ∷ []) (2 ^ 64 - 64)
+    ∷ at (0x62 ∷ 0xF2 ∷ 0x6D ∷ 0x48 ∷ 0x8D ∷ 0x48 ∷ 0xFF ∷ []) (2 ^ 64 - 64)
+    ∷ at (0x62 ∷ 0xF2 ∷ 0x6D ∷ 0x48 ∷ 0x00 ∷ 0x48 ∷ 0xFF ∷ []) (2 ^ 64 - 64)
     ∷ at (0x62 ∷ 0xF1 ∷ 0x7D ∷ 0x48 ∷ 0x70 ∷ 0x88 ∷ 0xFF ∷ 0xFF ∷ 0xFF ∷ 0xFF ∷ 0x1B ∷ []) (2 ^ 64 - 1)
     ∷ at (0x62 ∷ 0xF1 ∷ 0x7D ∷ 0x48 ∷ 0x70 ∷ 0x88 ∷ 0x00 ∷ 0x00 ∷ 0x00 ∷ 0x80 ∷ 0x1B ∷ []) (2 ^ 64 - 2147483648)
     ∷ at (0x62 ∷ 0xF1 ∷ 0x7D ∷ 0x58 ∷ 0x70 ∷ 0x88 ∷ 0xFF ∷ 0xFF ∷ 0xFF ∷ 0x7F ∷ 0x1B ∷ []) 2147483647
@@ -85,14 +88,16 @@ bases =
     ∷ at (0x62 ∷ 0xB1 ∷ 0x7D ∷ 0x48 ∷ 0x70 ∷ 0x0B ∷ 0x1B ∷ []) (held 3)
     ∷ []
 
--- rules 10.4 and 10.5: [rax + rcx·1], ·2, ·4, ·8; index 4 with X 0, whose scale does not matter; r12 under VEX and EVEX; [r9 + r10·8 - 64]; rsi as base
--- and index
+-- rules 10.4 and 10.5: [rax + rcx·1], ·2, ·4, ·8; the first again under C5, whose vvvv has bits where X and B stand elsewhere, and under EVEX with R, R'
+-- and V' set; index 4 with X 0, whose scale does not matter; r12 under VEX and EVEX; [r9 + r10·8 - 64]; rsi as base and index
 unfoldable pub indexes : List Example
 indexes =
     at (0xC5 ∷ 0xF9 ∷ 0x70 ∷ 0x0C ∷ 0x08 ∷ 0x1B ∷ []) (held 0 + held 1)
     ∷ at (0xC5 ∷ 0xF9 ∷ 0x70 ∷ 0x0C ∷ 0x48 ∷ 0x1B ∷ []) (held 0 + 2 * held 1)
     ∷ at (0xC5 ∷ 0xF9 ∷ 0x70 ∷ 0x0C ∷ 0x88 ∷ 0x1B ∷ []) (held 0 + 4 * held 1)
     ∷ at (0xC5 ∷ 0xF9 ∷ 0x70 ∷ 0x0C ∷ 0xC8 ∷ 0x1B ∷ []) (held 0 + 8 * held 1)
+    ∷ at (0xC5 ∷ 0x88 ∷ 0x14 ∷ 0x0C ∷ 0x08 ∷ []) (held 0 + held 1)
+    ∷ at (0x62 ∷ 0x61 ∷ 0x6C ∷ 0x40 ∷ 0x14 ∷ 0x0C ∷ 0x08 ∷ []) (held 0 + held 1)
     ∷ at (0xC5 ∷ 0xF9 ∷ 0x70 ∷ 0x0C ∷ 0xE0 ∷ 0x1B ∷ []) (held 0)
     ∷ at (0xC4 ∷ 0xA1 ∷ 0x79 ∷ 0x70 ∷ 0x0C ∷ 0x20 ∷ 0x1B ∷ []) (held 0 + held 12)
     ∷ at (0x62 ∷ 0xB1 ∷ 0x7D ∷ 0x48 ∷ 0x70 ∷ 0x0C ∷ 0xA0 ∷ 0x1B ∷ []) (held 0 + 4 * held 12)
@@ -222,6 +227,8 @@ pub record Examples : Type 0 where
   pub every-base : places withBase ≡ pairs held
   pub every-index : places withIndex ≡ pairs (λ k. if eqb k 4 then 0 else held k)
   pub wrapping : answered (all (2 ^ 64 - 1)) place wraps ≡ expected wraps
+  -- an instruction beyond 32 bits
+  pub far : addressOf (0xC5 ∷ 0xF9 ∷ 0x70 ∷ 0x0D ∷ 0xFF ∷ 0xFF ∷ 0xFF ∷ 0xFF ∷ 0x1B ∷ []) allFeatures registers 0x123456789ABC ≡ Addressed.At (0x123456789ABC + 8)
   pub turning : answered registers (2 ^ 64 - 4) turns ≡ expected turns
   pub otherwise : answered registers place others ≡ expected others
   -- other than sixteen registers, and features over the limit, before anything else; a missing feature last
@@ -244,6 +251,7 @@ examples =
       every-base = refl;
       every-index = refl;
       wrapping = refl;
+      far = refl;
       turning = refl;
       otherwise = refl;
       fifteen = refl;

@@ -31,9 +31,10 @@ impl Answer {
 pub enum Failure {
     /// Says what was expected: exit status 2.
     Usage(String),
-    /// A refusal by a command that prints nothing else, or a slip of the command itself: exit
-    /// status 1.
+    /// A refusal by a command that prints nothing else: exit status 1.
     Refused(String),
+    /// A slip of the command itself: exit status 3.
+    Internal(String),
 }
 
 impl From<String> for Failure {

@@ -179,7 +179,7 @@ byte in vectors, or in elements. tarhuspo address works the address out.
 const DECODE_END: &str = "
 example: tarhuspo decode 62 F1 7D C9 70 CA 1B --features avx512f
 
-exit status: 0 accepted, 1 refused, 2 bad usage
+exit status: 0 accepted, 1 refused, 2 bad usage, 3 internal error
 ";
 
 const ADDRESS: &str = "\
@@ -206,7 +206,8 @@ Addresses and values are decimal, or hex with 0x in front.
 
 example: tarhuspo address 62B17D48704CA3FF1B --gpr rbx=0x1000,r12=8
 
-exit status: 0 accepted, also without a memory operand; 1 refused; 2 bad usage
+exit status: 0 accepted, also without a memory operand; 1 refused; 2 bad usage;
+3 internal error
 ";
 
 const RUN: &str = "\

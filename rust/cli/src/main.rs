@@ -28,6 +28,8 @@ use std::process::ExitCode;
 const REFUSED: u8 = 1;
 /// Bad usage, or a file that cannot be read or written.
 const USAGE: u8 = 2;
+/// The command found itself wrong.
+const INTERNAL: u8 = 3;
 
 fn main() -> ExitCode {
     let words: Vec<_> = std::env::args_os().skip(1).collect();
@@ -44,6 +46,10 @@ fn main() -> ExitCode {
         Err(Failure::Refused(refusal)) => {
             output::complain(&format!("tarhuspo: {refusal}\n"));
             ExitCode::from(REFUSED)
+        }
+        Err(Failure::Internal(slip)) => {
+            output::complain(&format!("tarhuspo: {slip}\n"));
+            ExitCode::from(INTERNAL)
         }
     }
 }

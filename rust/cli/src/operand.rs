@@ -10,7 +10,8 @@ use std::fmt;
 use tarhuspo::limits::GPR_COUNT;
 use tarhuspo::{features, Decoded};
 
-/// A hex digit for each register: one taken for another, or a wrong scale, shows in the sum.
+/// A hex digit for each register: one taken for another, or a wrong scale, shows in the sum. Base
+/// and index exchanged at a scale of 1 do not, since they make the same sum.
 const TELLING: [u64; GPR_COUNT] = {
     let mut registers = [1; GPR_COUNT];
     let mut number = 1;
@@ -135,7 +136,7 @@ impl Operand {
 
 /// An internal error: the command read an operand in another way than the library.
 fn slip(text: &str) -> Failure {
-    Failure::Refused(format!(
+    Failure::Internal(format!(
         "internal error in reading the memory operand: {text}"
     ))
 }
@@ -291,7 +292,7 @@ mod tests {
                 index,
                 displacement,
             };
-            let Err(Failure::Refused(text)) = wrong.hold(&TELLING, 7, library) else {
+            let Err(Failure::Internal(text)) = wrong.hold(&TELLING, 7, library) else {
                 panic!("{wrong} passes for {right}");
             };
             assert!(text.starts_with("internal error "), "{text}");

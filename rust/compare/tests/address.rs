@@ -486,6 +486,7 @@ fn a_register_forms_answer_depends_on_nothing() {
 fn other_operands_do_not_count() {
     for_operands(230, 30, |form, case, random| {
         let before = case.address();
+        assert!(before.has_address, "{case}");
         let shape = form.shape;
         let mut below = |registers: u8| random.below(registers.into()) as u8;
         shape.set_destination(&mut case.code, below(shape.registers()));

@@ -23,8 +23,9 @@ pub struct Addressed {
 /// where the instruction itself stands, and counts for a rip-relative operand alone. `features`,
 /// and the statuses 2 to 5, are those of [`decode`](crate::decode).
 ///
-/// The sum wraps around at 64 bits. Segment bases are left out: add that of fs or gs yourself. How
-/// many bytes stand there is `memory` of [`Decoded`](crate::Decoded).
+/// The sum wraps around at 64 bits. Segment bases are left out, and a prefix in front is refused
+/// with status 3: for fs or gs, pass the code and the address behind the prefix, and add the
+/// segment's base. How many bytes stand there is `memory` of [`Decoded`](crate::Decoded).
 ///
 /// ```
 /// use tarhuspo::limits::GPR_COUNT;
