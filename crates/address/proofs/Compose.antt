@@ -2,6 +2,7 @@
 use Prim.Native.Nat.{ℕ, _+_, _*_, _/_, _%_, _^_, _<_}
 use mathlib.Core.Path.{_≡_, _∙_, sym, ap}
 use mathlib.Core.List.{List}
+use native.Mathlib.Nat.{mul-one}
 use native.Mathlib.Omega.{arith}
 use lib.ListN.{length, getD}
 use borrow.Author.Tests.{eq-eqb, ne-eqb}
@@ -68,7 +69,7 @@ module _ (size unit : ℕ) (code : List ℕ) (p r : ℕ) where
 
   pub four-bytes : (size ≡ 1 → ⊥) → size ≡ 4 → (n : ℕ) → n ≡ fourBytes code p → r ≡ wrapped (signedOf (2 ^ 32) n * 1) → r ≡ displacementOf size unit code p
   unfolding displacementOf
-  four-bytes o s n h e = rw (ne-eqb size 1 o, eq-eqb size 4 s, ← h) e
+  four-bytes o s n h e = rw (ne-eqb size 1 o, eq-eqb size 4 s, ← h) (rw (mul-one (signedOf (2 ^ 32) n)) at e)
 
   pub no-bytes : (size ≡ 1 → ⊥) → (size ≡ 4 → ⊥) → 0 ≡ displacementOf size unit code p
   unfolding displacementOf

@@ -32,5 +32,5 @@ unitOf Evex b element width = if b then elementBytes element else widthBytes wid
 unfoldable pub displacementOf : ℕ → ℕ → List ℕ → ℕ → ℕ
 displacementOf size unit code p =
     if eqb size 1 then wrapped (signedOf 256 (getD code p 0) * unit)
-    else if eqb size 4 then wrapped (signedOf (2 ^ 32) (fourBytes code p) * 1)
+    else if eqb size 4 then wrapped (signedOf (2 ^ 32) (fourBytes code p))
     else 0
