@@ -59,7 +59,7 @@ unfolding buildOf scannedOf buildSplit split mappable decodeOf knownOf onHead on
 steps = refl
 
 -- a list of as many bytes as may be, of one more, and that with wrong masks, a wrong map or wrong features
-pub order : buildOf (replicate 4096 0) 8 63 2048 ∷ buildOf (replicate 4097 0) 8 63 2048 ∷ buildOf (replicate 4097 0) 7 63 2048 ∷ buildOf (replicate 4097 0) 8 63 2047 ∷ buildOf (replicate 4097 0) 8 64 2048 ∷ []
+pub order : buildOf (replicate 16384 0) 8 63 2048 ∷ buildOf (replicate 16385 0) 8 63 2048 ∷ buildOf (replicate 16385 0) 7 63 2048 ∷ buildOf (replicate 16385 0) 8 63 2047 ∷ buildOf (replicate 16385 0) 8 64 2048 ∷ []
     ≡ built 0 (Answer.Refused Unlisted) ∷ built 0 (Answer.Refused TooLong) ∷ replicate 3 (built 0 (Answer.Refused Argument))
 unfolding buildOf scannedOf buildSplit split decodeOf knownOf prefixSize prefixOf headOf onHead
 order = refl

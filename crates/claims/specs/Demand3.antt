@@ -59,7 +59,7 @@ module _ (masks : List ℕ) (features : ℕ) where
     pub accepted-only-if-admitted : (code : List ℕ) → Accepted code masks features → Admitted
     pub an-accepted-list-has-a-map : (code : List ℕ) → Accepted code masks features → (m : List ℕ) × IsMapOf code m
     pub a-lists-map-passes : (code m : List ℕ) → IsMapOf code m → Map m
-    -- 2. Rule 9.7, a: applying the map answers 0 and leaves what running the list leaves, whatever budget reaches the end. All from 1,024 on do.
+    -- 2. Rule 9.7, a: applying the map answers 0 and leaves what running the list leaves, whatever budget reaches the end. All from 4,096 on do.
     pub applying-is-running : (code m file : List ℕ) (budget : ℕ) → IsMapOf code m → File file → ReachesTheEnd code budget
         → (applyOf m (length file) ≡ Answer.Done) × (fileApplied m file ≡ fileAfterRun code masks features budget file)
     pub a-whole-budget-reaches-the-end : (code : List ℕ) (budget : ℕ) → Accepted code masks features → wholeBudget ≤ budget → ReachesTheEnd code budget

@@ -3,7 +3,11 @@ mod Puts
 mod Names
 mod Numbers
 mod Reasons
+mod Headings
+pub mod Fits
 mod Lines
 pub mod Bounds
-pub mod Laws
+mod Writing
 mod Whole
+pub mod Laws
+pub mod Pieces

@@ -1,12 +1,13 @@
 -- Bytes put into a buffer: the buffer's length, one part after another, and a part from the front.
-use Prim.Native.Nat.{ℕ, suc, _+_, _<_, _≤_}
+use Prim.Native.Nat.{ℕ, suc, _+_, _-_, _<_, _≤_}
 use mathlib.Core.Path.{_≡_, refl, _∙_, sym, ap}
 use mathlib.Core.List.{List, [], _∷_, _++_}
 use native.Mathlib.Omega.{arith}
-use native.Mathlib.Nat.{add-zero, add-suc, suc-add, zero-add}
+use native.Mathlib.Nat.{add-zero, add-suc, suc-add, zero-add, sub-zero}
 use native.Mathlib.Numerals.{add-one}
-use lib.ListN.{length, getD, drop, set, length-set, length-append}
+use lib.ListN.{length, getD, take, drop, set, length-set, length-append}
 use lib.Seq.{sets, length-sets, sets-eq, paste, paste-zero, paste-suc, take-length}
+use store.Seg.{take-pre}
 use Rattle.listing.specs.Inner.{putAt}
 
 pub length-put : (text : List ℕ) (at : ℕ) (w : List ℕ) → length (putAt text at w) ≡ length text
@@ -33,6 +34,10 @@ put-front text w h = sets-eq w text 0 (rw (zero-add (length w)) h) ∙ rw (zero-
 -- bytes w are put in at a place: the buffer is `after`, and the place behind them is `next`
 abbrev pub Put : List ℕ → ℕ → List ℕ → ℕ → List ℕ → Type 0
 Put text at w next after = (next ≡ at + length w) × (after ≡ putAt text at w)
+
+-- what is put in at the front, as a part of the buffer
+pub whole-part : (text w : List ℕ) (n : ℕ) (new : List ℕ) → Put text 0 w n new → length w ≤ length text → take (n - 0) (drop 0 new) ≡ w
+whole-part text w n new p h = rw (p .0, p .1, zero-add (length w), sub-zero (length w), put-front text w h) (take-pre w (drop (length w) text))
 
 -- where two parts fit, the first does
 pub first-fits : (at n : ℕ) (a b : List ℕ) → at + length (a ++ b) ≤ n → at + length a ≤ n

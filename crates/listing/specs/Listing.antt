@@ -1,10 +1,10 @@
--- Rules 8.1 to 8.5, with request 3: a list of instructions as text. Headings, a line for each step, and a line for the refusal if there is one.
-use Prim.Native.Nat.{ℕ, _+_, _*_}
-use mathlib.Core.Bool.{true}
+-- Section 8 of the rules, with requests 3 and 5: a list of instructions as text, and the text in pieces.
+use Prim.Native.Nat.{ℕ, _+_, _-_, _*_}
+use mathlib.Core.Bool.{Bool, true, false}
 use mathlib.Core.List.{List, [], _∷_, _++_}
 use lib.Dec.{eqb, leb}
 use lib.ListN.{length, getD, drop}
-use Rattle.seq.specs.Choice.{if_then_else_}
+use Rattle.seq.specs.Choice.{if_then_else_, both}
 use Rattle.isa.specs.Kinds.{codeLimit, textLeast}
 use Rattle.isa.specs.Features.{allFeatures}
 use Rattle.isa.specs.Operands.{mnemonicNumber, none, widthBytes}
@@ -67,36 +67,87 @@ acceptedLine place x = record { place = place; length = x .length; name = x .mne
 abbrev pub refusedLine : ℕ → Refusal → Line
 refusedLine place why = record { place = place; length = 0; name = none; bits = 0; status = statusOf why; reason = reasonOf why }
 
--- rule 8.2: every step that decodes is wanted, memory or not, so that Argument is not given here
-unfoldable pub listedSplit : List ℕ → Split
-listedSplit code = split (λ x. true) Argument allFeatures (length code) code
+-- rule 8.2: the steps from a place on. Every step that decodes is wanted, memory or not, so that Argument is not given here
+unfoldable pub splitFrom : List ℕ → ℕ → Split
+splitFrom code place = split (λ x. true) Argument allFeatures (length code - place) (drop place code)
 
--- the steps' lines, from a place on
-unfoldable pub stepLines : ℕ → List Instruction → List ℕ
+-- the steps' lines, the first at a place. Places count from the list's start
+unfoldable pub stepLines : ℕ → List Instruction → List Line
 stepLines place [] = []
-stepLines place (x ∷ xs) = lineText (acceptedLine place x) ++ stepLines (place + x .length) xs
+stepLines place (x ∷ xs) = acceptedLine place x ∷ stepLines (place + x .length) xs
 
 -- the line after them: none at the end of the list
-unfoldable pub lastLine : ℕ → Answer → List ℕ
+unfoldable pub lastLine : ℕ → Answer → List Line
 lastLine place Answer.Done = []
-lastLine place (Answer.Refused why) = lineText (refusedLine place why)
+lastLine place (Answer.Refused why) = refusedLine place why ∷ []
 
+-- where the lines from a place on end: at the list's end, or at the refused step
+unfoldable pub endFrom : List ℕ → ℕ → ℕ
+endFrom code place = place + splitFrom code place .place
+
+unfoldable pub linesFrom : List ℕ → ℕ → List Line
+linesFrom code place = let s = splitFrom code place in stepLines place (s .instructions) ++ lastLine (endFrom code place) (s .answer)
+
+unfoldable pub linesText : List Line → List ℕ
+linesText [] = []
+linesText (l ∷ ls) = lineText l ++ linesText ls
+
+-- the whole text of a list: headings, a line for each step, and a line for the refusal if there is one
 unfoldable pub listingText : List ℕ → List ℕ
-listingText code = let s = listedSplit code in headings ++ (stepLines 0 (s .instructions) ++ lastLine (s .place) (s .answer))
+listingText code = headings ++ linesText (linesFrom code 0)
+
+-- ---- request 5: a piece of the text. `text` is the length of what it is written into
+
+-- rule 8.9: the headings come with place 0 alone
+unfoldable pub headingsAt : ℕ → List ℕ
+headingsAt place = if eqb place 0 then headings else []
+
+-- rule 8.10: as many lines from the front as so many bytes hold, each of them whole; and the others
+unfoldable pub fitting : ℕ → List Line → List Line
+fitting room [] = []
+fitting room (l ∷ ls) = if leb (length (lineText l)) room then l ∷ fitting (room - length (lineText l)) ls else []
+
+unfoldable pub remaining : ℕ → List Line → List Line
+remaining room ls = drop (length (fitting room ls)) ls
+
+-- what the headings leave for lines
+abbrev pub roomFor : ℕ → ℕ → ℕ
+roomFor place text = text - length (headingsAt place)
+
+unfoldable pub pieceText : List ℕ → ℕ → ℕ → List ℕ
+pieceText code place text = headingsAt place ++ linesText (fitting (roomFor place text) (linesFrom code place))
+
+-- rule 8.11: the next place is that of the first line that remains, or where the lines end
+abbrev pub nextPlace : List Line → ℕ → ℕ
+nextPlace [] end = end
+nextPlace (l ∷ ls) end = l .place
+
+abbrev pub someRemain : List Line → Bool
+someRemain [] = false
+someRemain (l ∷ ls) = true
+
+unfoldable pub pieceOf : List ℕ → ℕ → ℕ → Listed
+pieceOf code place text =
+    let left = remaining (roomFor place text) (linesFrom code place) in
+    record { written = length (pieceText code place text); next = nextPlace left (endFrom code place); more = someRemain left; answer = Answer.Done }
 
 abbrev pub refusedListing : Refusal → Listed
-refusedListing why = record { written = 0; answer = Answer.Refused why }
+refusedListing why = record { written = 0; next = 0; more = false; answer = Answer.Refused why }
 
--- rules 8.1 and 8.4: the size of the text, then the list's length. A list with a refused step is listed like others. `text` is a length
-unfoldable pub listingOf : List ℕ → ℕ → Listed
-listingOf code text =
-    if leb textLeast text then
-    (if leb (length code) codeLimit then record { written = length (listingText code); answer = Answer.Done } else refusedListing TooLong)
+-- rule 8.1: the size of the text and the place, which may be the list's end; then the list's length. A list with a refused step is listed like others
+abbrev pub callRight : ℕ → ℕ → ℕ → Bool
+callRight code place text = both (leb textLeast text) (leb place code)
+
+unfoldable pub listingOf : List ℕ → ℕ → ℕ → Listed
+listingOf code place text =
+    if callRight (length code) place text then
+    (if leb (length code) codeLimit then pieceOf code place text else refusedListing TooLong)
     else refusedListing Argument
 
--- rule 8.5: what the text holds afterwards, the listing in front, and behind it what was there
-unfoldable pub textAfter : List ℕ → List ℕ → List ℕ
-textAfter code text =
-    if leb textLeast (length text) then
-    (if leb (length code) codeLimit then listingText code ++ drop (length (listingText code)) text else text)
+-- rule 8.5: what the text holds afterwards, the piece in front, and behind it what was there
+unfoldable pub textAfter : List ℕ → ℕ → List ℕ → List ℕ
+textAfter code place text =
+    let piece = pieceText code place (length text) in
+    if callRight (length code) place (length text) then
+    (if leb (length code) codeLimit then piece ++ drop (length piece) text else text)
     else text

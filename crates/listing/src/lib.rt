@@ -1,11 +1,12 @@
-// A list of instructions as text.
+// A list of instructions as text, in pieces.
 ghost use mathlib.Core.Path.{_≡_};
 ghost use mathlib.Core.List.{_∷_, []};
 ghost use Prim.Native.Nat.{_+_, _<_, _≤_};
 ghost use lib.ListN.{length, take};
+ghost use Rattle.isa.specs.Kinds.{codeLimit, textLeast};
 ghost use Rattle.listing.specs.Text.{decimal};
-ghost use Rattle.listing.specs.Inner.{putAt, nameAt, lineOf, linesFrom};
-ghost use Rattle.listing.specs.Listing.{names, field, nameText, reasonText, lineText, refusedListing, listingOf, textAfter};
+ghost use Rattle.listing.specs.Inner.{putAt, nameAt, lineMost, lineOf, fitOf, putFitting, bytesFrom, listedAt, listedFrom};
+ghost use Rattle.listing.specs.Listing.{names, field, nameText, reasonText, lineText, headingsAt, callRight, refusedListing, listingOf, textAfter};
 use decode::instruction::Decoded;
 use decode::instruction::Instruction;
 use isa::features::Features;
@@ -27,10 +28,21 @@ pub struct Line {
     pub reason: u32,
 }
 
+// A piece of a listing.
 pub struct Listed {
     // Bytes of the text.
     pub written: usize,
+    // Where the next line's step starts, or where the lines end.
+    pub next: usize,
+    // Whether lines remain.
+    pub more: bool,
     pub answer: Answer,
+}
+
+// Whether bytes are put into a text: all of them, up to the place behind them, or none.
+pub enum Fit {
+    Behind(usize),
+    NoRoom,
 }
 
 // Writes one byte, and gives the place behind it.
@@ -174,22 +186,61 @@ fn line_of(place: usize, decoded: Decoded) -> Line
     }
 }
 
-// A line for each step. The first that is refused has the last one.
-fn put_lines(code: &[u8], text: &mut [u8], at: usize) -> usize
-    requires { ⌜ at + length (linesFrom (now code) 0) ≤ length (now text) ⌝ }
-    ensures { λ r. ⌜ (r ≡ at + length (linesFrom (now (code .entry)) 0)) × (now (text .exit) ≡ putAt (now (text .entry)) at (linesFrom (now (code .entry)) 0)) ⌝ }
+// A line is made apart, so that it is put in whole or not at all.
+fn put_fitting(text: &mut [u8], at: usize, line: Line) -> Fit
+    requires { ⌜ (at ≤ length (now text)) × (length (lineText line) ≤ lineMost) ⌝ }
+    ensures { λ r. ⌜ (r ≡ fitOf (length (now (text .entry))) at (lineText line)) × (now (text .exit) ≡ putFitting (now (text .entry)) at (lineText line)) ⌝ }
 {
-    let mut place: usize = 0;
-    let mut end = at;
-    while place < code.len() {
-        let decoded = decode::decode(&code[place..], Features(Features::LIMIT));
-        end = put_line(text, end, line_of(place, decoded));
-        let Decoded::Accepted(x) = decoded else {
-            return end;
-        };
-        place += x.length;
+    let mut bytes = [0u8; Text::LINE];
+    let size = put_line(&mut bytes, 0, line);
+    if text.len() - at < size {
+        return Fit::NoRoom;
     }
-    end
+    Fit::Behind(put_all(text, at, &bytes[0..size]))
+}
+
+fn piece(written: usize, next: usize, more: bool) -> Listed
+    ensures { λ r. ⌜ r ≡ listedAt written next more ⌝ }
+{
+    Listed {
+        written: written,
+        next: next,
+        more: more,
+        answer: Answer::Done,
+    }
+}
+
+// A line for each step from a place on, as many as fit. The first step that is refused has the last one.
+fn put_lines(code: &[u8], place: usize, text: &mut [u8], at: usize) -> Listed
+    requires { ⌜ (place ≤ length (now code)) × (length (now code) ≤ codeLimit) × (at ≤ length (now text)) ⌝ }
+    ensures { λ r. ⌜ (r ≡ listedFrom (now (code .entry)) place at (length (now (text .entry)))) × (now (text .exit) ≡ putAt (now (text .entry)) at (bytesFrom (now (code .entry)) place at (length (now (text .entry))))) ⌝ }
+{
+    let mut next = place;
+    let mut end = at;
+    while next < code.len() {
+        let decoded = decode::decode(&code[next..], Features(Features::LIMIT));
+        let fit = put_fitting(text, end, line_of(next, decoded));
+        let Fit::Behind(after) = fit else {
+            return piece(end, next, true);
+        };
+        end = after;
+        let Decoded::Accepted(x) = decoded else {
+            return piece(end, next, false);
+        };
+        next += x.length;
+    }
+    piece(end, next, false)
+}
+
+// The headings stand in front of the first line.
+fn put_headings(text: &mut [u8], place: usize) -> usize
+    requires { ⌜ textLeast ≤ length (now text) ⌝ }
+    ensures { λ r. ⌜ (r ≡ length (headingsAt place)) × (now (text .exit) ≡ putAt (now (text .entry)) 0 (headingsAt place)) ⌝ }
+{
+    if place == 0 {
+        return put_all(text, 0, b"at\tlen\tname\tbits\tanswer\n");
+    }
+    0
 }
 
 fn refused(why: Refusal) -> Listed
@@ -197,23 +248,33 @@ fn refused(why: Refusal) -> Listed
 {
     Listed {
         written: 0,
+        next: 0,
+        more: false,
         answer: Answer::Refused(why),
     }
 }
 
-// Writes the listing to the front of the text. What the text holds behind it stays.
-pub fn listing(code: &[u8], text: &mut [u8]) -> Listed
-    ensures { λ r. ⌜ (r ≡ listingOf (now (code .entry)) (length (now (text .entry)))) × (now (text .exit) ≡ textAfter (now (code .entry)) (now (text .entry))) ⌝ }
+// Answer 1: the text's size, then the place, which may be the list's end.
+fn call_right(code: usize, place: usize, text: usize) -> bool
+    ensures { λ r. ⌜ r ≡ callRight code place text ⌝ }
 {
-    if text.len() < Text::LEAST {
-        return refused(Refusal::Argument);
+    if text < Text::LEAST {
+        return false;
     }
-    if Code::LIMIT < code.len() {
-        return refused(Refusal::TooLong);
+    place <= code
+}
+
+// Writes as many whole lines of the listing as fit, from a place in the list on, to the front of the text. What the text
+// holds behind them stays.
+pub fn listing(code: &[u8], place: usize, text: &mut [u8]) -> Listed
+    ensures { λ r. ⌜ (r ≡ listingOf (now (code .entry)) place (length (now (text .entry)))) × (now (text .exit) ≡ textAfter (now (code .entry)) place (now (text .entry))) ⌝ }
+{
+    if call_right(code.len(), place, text.len()) {
+        if Code::LIMIT < code.len() {
+            return refused(Refusal::TooLong);
+        }
+        let lines = put_headings(text, place);
+        return put_lines(code, place, text, lines);
     }
-    let headings = put_all(text, 0, b"at\tlen\tname\tbits\tanswer\n");
-    Listed {
-        written: put_lines(code, text, headings),
-        answer: Answer::Done,
-    }
+    refused(Refusal::Argument)
 }

@@ -95,7 +95,7 @@ module _ (code masks : List ℕ) (features : ℕ) (file : List ℕ) where
       by true p false q v r w s = stops Argument (λ b. rw (p, q)) (λ b. rw (p, q))
       by false p u q v r w s = stops Argument (λ b. rw p) (λ b. rw p)
 
--- a budget of 1,024 reaches the end or a refusal
+-- a budget of 4,096 reaches the end or a refusal
 stepped-to-the-end : (code : List ℕ) (features : ℕ) → length code ≤ codeLimit → steppedRun code features wholeBudget .answer ≡ Answer.Done → steppedRun code features wholeBudget .place ≡ length code
 unfolding steppedRun runSplit
 stepped-to-the-end code features h e = settled withoutMemory MemoryLength features wholeBudget code (omega arith) e

@@ -43,7 +43,7 @@ unfolding runOf steppedRun runSplit split decodeOf knownOf onHead onRow onTotal 
 steps = refl
 
 -- with a budget of 0: a list of as many bytes as may be, of one more, and that with a wrong file, wrong masks or wrong features
-pub order : runOf (replicate 4096 0) 2048 8 63 0 ∷ runOf (replicate 4097 0) 2048 8 63 0 ∷ runOf (replicate 4097 0) 2047 8 63 0 ∷ runOf (replicate 4097 0) 2048 7 63 0 ∷ runOf (replicate 4097 0) 2048 8 64 0 ∷ []
+pub order : runOf (replicate 16384 0) 2048 8 63 0 ∷ runOf (replicate 16385 0) 2048 8 63 0 ∷ runOf (replicate 16385 0) 2047 8 63 0 ∷ runOf (replicate 16385 0) 2048 7 63 0 ∷ runOf (replicate 16385 0) 2048 8 64 0 ∷ []
     ≡ ran 0 0 Answer.Done ∷ ran 0 0 (Answer.Refused TooLong) ∷ replicate 3 (ran 0 0 (Answer.Refused Argument))
 unfolding runOf steppedRun runSplit split
 order = refl

@@ -17,9 +17,9 @@ use Rattle.run.specs.Split.{Split, split}
 use Rattle.run.specs.declared.Answer.{Answer}
 use Rattle.run.specs.declared.Ran.{Ran}
 
--- rule 6.7: a budget that reaches the end, or a refusal, of every list that answer 8 lets pass
+-- rule 6.7, request 5: a budget that reaches the end, or a refusal, of every list that answer 8 lets pass
 abbrev pub wholeBudget : ℕ
-wholeBudget = 1024
+wholeBudget = 4096
 
 -- rule 6.3: no memory comes with a list, so that a memory form is refused as one of the wrong length
 abbrev pub withoutMemory : Instruction → Bool

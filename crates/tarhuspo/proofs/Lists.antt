@@ -2,16 +2,11 @@
 use Prim.Native.Nat.{ℕ}
 use mathlib.Core.Path.{_≡_}
 use Rattle.run.specs.declared.Answer.{Answer}
-use Rattle.tarhuspo.specs.Lists.{answerStatus, answerReason}
+use Rattle.tarhuspo.specs.Lists.{answerStatus}
 
 pub gives-status : (k want : Answer) → k ≡ want → (s : ℕ) → s ≡ answerStatus k → s ≡ answerStatus want
 gives-status k want p s e = rw (← p) e
 
--- a struct that is made of what a callee gave and of its answer's number
-pub gives : {A B : Type 0} (answer : A → Answer) (make : A → ℕ → B) (k want : A) → k ≡ want → (s : ℕ) → s ≡ answerStatus (answer k) → make k s ≡ make want (answerStatus (answer want))
-gives answer make k want p s e = rw (← p, e)
-
--- the same with the number of the wrong field
-pub gives-reason : {A B : Type 0} (answer : A → Answer) (make : A → ℕ → ℕ → B) (k want : A) → k ≡ want → (s r : ℕ) → s ≡ answerStatus (answer k) → r ≡ answerReason (answer k)
-    → make k s r ≡ make want (answerStatus (answer want)) (answerReason (answer want))
-gives-reason answer make k want p s r e g = rw (← p, e, g)
+-- a struct that is made of what a callee gave and of two numbers of that
+pub gives : {A B : Type 0} (make : A → ℕ → ℕ → B) (f g : A → ℕ) (k want : A) → k ≡ want → (s r : ℕ) → s ≡ f k → r ≡ g k → make k s r ≡ make want (f want) (g want)
+gives make f g k want p s r e h = rw (← p, e, h)

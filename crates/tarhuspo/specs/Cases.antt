@@ -1,7 +1,8 @@
--- Rules 5.1, 5.12, 5.13, 6.5, 7.5 and 10.1 as C sees them: the number of each refusal in every answer, with that of the wrong field (rule 5.11), and worked
+-- Rules 5.1, 5.12, 5.13, 6.5, 7.5, 8.11 and 10.1 as C sees them: the number of each refusal in every answer, with that of the wrong field (rule 5.11), and worked
 -- cases' decodings with their fields in the struct's order. All are proved by computing.
 use Prim.Native.Nat.{ℕ}
 use mathlib.Core.Path.{_≡_, refl}
+use mathlib.Core.Bool.{true, false}
 use mathlib.Core.List.{List, [], _∷_, _++_, map}
 use lib.ListN.{replicate}
 use Rattle.isa.specs.Features.{hasFeature}
@@ -19,6 +20,7 @@ use Rattle.decode.specs.declared.instruction.Decoded.{Decoded}
 use Rattle.step.specs.declared.Stepped.{Stepped}
 use Rattle.address.specs.declared.Addressed.{Addressed}
 use Rattle.run.specs.declared.Answer.{Answer}
+use Rattle.listing.specs.declared.Listed.{Listed}
 use Rattle.tarhuspo.specs.Decoded.{acceptedOf, refusedOf, decodedOf}
 use Rattle.tarhuspo.specs.Stepped.{steppedOf}
 use Rattle.tarhuspo.specs.Addressed.{addressedOf}
@@ -49,7 +51,7 @@ abbrev pub builtFields : TarhuspoBuilt → List ℕ
 builtFields b = b .place ∷ b .status ∷ b .reason ∷ []
 
 abbrev pub listedFields : TarhuspoListed → List ℕ
-listedFields l = l .written ∷ l .status ∷ []
+listedFields l = l .written ∷ l .next ∷ l .status ∷ l .more ∷ []
 
 -- ---- refusals
 
@@ -92,7 +94,9 @@ runs-answered = refl
 pub builds-answered : map (λ (a : Answer). builtFields (builtOf (record { place = 11; answer = a }))) answers ≡ map (λ (n : ℕ × ℕ). 11 ∷ n .0 ∷ n .1 ∷ []) ((0, 0) ∷ numbers)
 builds-answered = refl
 
-pub listings-answered : map (λ (a : Answer). listedFields (listedOf (record { written = 24; answer = a }))) answers ≡ map (λ (n : ℕ × ℕ). 24 ∷ n .0 ∷ []) ((0, 0) ∷ numbers)
+-- request 5: lines that remain, and none; each answer
+pub listings-answered : map (λ (l : Listed). listedFields (listedOf l)) (record { written = 61; next = 12; more = true; answer = Answer.Done } ∷ map (λ (a : Answer). record { written = 24; next = 7; more = false; answer = a }) answers)
+    ≡ (61 ∷ 12 ∷ 0 ∷ 1 ∷ []) ∷ map (λ (n : ℕ × ℕ). 24 ∷ 7 ∷ n .0 ∷ 0 ∷ []) ((0, 0) ∷ numbers)
 listings-answered = refl
 
 -- ---- decodings: VPERM2F128 ymm1, ymm2, ymm3; VPSHUFD zmm1 from zmm2 under mask 1 with zeroing; VPSHUFD with a broadcast doubleword;

@@ -1,4 +1,4 @@
--- Rules 6.5, 7.5 and 8.4: the answers about lists, byte maps and listings as the C interface gives them.
+-- Rules 6.5, 7.5, 8.4 and 8.11: the answers about lists, byte maps and listings as the C interface gives them.
 use Prim.Native.Nat.{ℕ}
 use Rattle.isa.specs.Refusal.{statusOf, reasonOf}
 use Rattle.run.specs.declared.Answer.{Answer}
@@ -8,6 +8,7 @@ use Rattle.tarhuspo.specs.declared.TarhuspoRan.{TarhuspoRan}
 use Rattle.listing.specs.declared.Listed.{Listed}
 use Rattle.tarhuspo.specs.declared.TarhuspoBuilt.{TarhuspoBuilt}
 use Rattle.tarhuspo.specs.declared.TarhuspoListed.{TarhuspoListed}
+use Rattle.tarhuspo.specs.Decoded.{flag}
 
 abbrev pub answerStatus : Answer → ℕ
 answerStatus Answer.Done = 0
@@ -25,4 +26,4 @@ abbrev pub builtOf : Built → TarhuspoBuilt
 builtOf b = record { place = b .place; status = answerStatus (b .answer); reason = answerReason (b .answer) }
 
 abbrev pub listedOf : Listed → TarhuspoListed
-listedOf l = record { written = l .written; status = answerStatus (l .answer) }
+listedOf l = record { written = l .written; next = l .next; status = answerStatus (l .answer); more = flag (l .more) }

@@ -281,22 +281,26 @@ pub extern "C" fn tarhuspo_bytemap_compose(first: &[u16], second: &[u16], out: &
     status_of(bytemap::compose(first, second, out))
 }
 
-// tarhuspo_listed
+// tarhuspo_listed. All fields but status are 0 where status is not 0.
 #[repr(C)]
 pub struct TarhuspoListed {
     pub written: u64,
+    pub next: u64,
     pub status: u32,
+    pub more: u32,
 }
 
 #[no_mangle]
-pub extern "C" fn tarhuspo_listing(code: &[u8], text: &mut [u8]) -> TarhuspoListed
-    ensures { λ r. ⌜ (r ≡ listedOf (listingOf (now (code .entry)) (length (now (text .entry))))) × (now (text .exit) ≡ textAfter (now (code .entry)) (now (text .entry))) ⌝ }
+pub extern "C" fn tarhuspo_listing(code: &[u8], place: usize, text: &mut [u8]) -> TarhuspoListed
+    ensures { λ r. ⌜ (r ≡ listedOf (listingOf (now (code .entry)) place (length (now (text .entry))))) × (now (text .exit) ≡ textAfter (now (code .entry)) place (now (text .entry))) ⌝ }
 {
-    let listed = listing::listing(code, text);
+    let listed = listing::listing(code, place, text);
     let answer = listed.answer;
     TarhuspoListed {
         written: listed.written as u64,
+        next: listed.next as u64,
         status: status_of(answer),
+        more: flag_of(listed.more),
     }
 }
 

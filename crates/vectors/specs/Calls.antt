@@ -22,7 +22,7 @@ use Rattle.vectors.specs.Digest.{digestOf}
 use Rattle.vectors.specs.declared.digest.Digest.{Digest}
 use Rattle.vectors.specs.declared.calls.Entry.{Entry}
 use Rattle.vectors.specs.declared.calls.Line.{Line}
-use Rattle.vectors.specs.declared.calls.Line.the-variants.{Malformed, Status, OneMore, TwoMore, ThreeMore, Undigested}
+use Rattle.vectors.specs.declared.calls.Line.the-variants.{Malformed, Status, TwoMore, ThreeMore, Undigested}
 
 -- ---- decode: the digest is of the result's fields, in order
 
@@ -134,10 +134,11 @@ module _ (r code pools : List ℕ) where
   abbrev pub listingLine : Line
   listingLine =
       let size = numberAt 2 r 2 in
+      let place = numberAt 2 r 4 in
       atMost (textRoom - 2 * guard) size
-      (called (λ s d. OneMore (s .status) (s .written) d)
-      (λ text. listedOf (listingOf code (length text)))
-      (textAfter code)
+      (called (λ s d. ThreeMore (s .status) (s .written) (s .next) (s .more) d)
+      (λ text. listedOf (listingOf code place (length text)))
+      (textAfter code place)
       size (bytesFrom pools (numberAt 2 r 0) textRoom))
 
   -- request 4: the general registers are a part of the pool of masks; nothing is written, so there is no digest

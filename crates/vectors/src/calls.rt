@@ -40,7 +40,6 @@ pub enum Line {
     // Nothing: the input is not there in full, or its record asks for more than there is room for.
     Malformed,
     Status(u32, Digest),
-    OneMore(u32, u64, Digest),
     TwoMore(u32, u64, u64, Digest),
     ThreeMore(u32, u64, u64, u64, Digest),
     // No buffer is written, so there is nothing to digest.
@@ -248,7 +247,7 @@ fn compose(fields: &[u8], pools: &[u8; pools::SIZE]) -> Line
     Line::Status(status, map_digest(&out))
 }
 
-// Record: text: start u16, length u16.
+// Record: text: start u16, length u16; place u16.
 fn listing(fields: &[u8], code: &[u8], pools: &[u8; pools::SIZE]) -> Line
     ensures { λ r. ⌜ r ≡ listingLine (now (fields .entry)) (now (code .entry)) (now (pools .entry)) ⌝ }
 {
@@ -258,8 +257,15 @@ fn listing(fields: &[u8], code: &[u8], pools: &[u8; pools::SIZE]) -> Line
     }
     let mut text = pools::text(pools, u16_at(fields, 0));
     let end = GUARD + size;
-    let listed = tarhuspo::tarhuspo_listing(code, &mut text[GUARD..end]);
-    Line::OneMore(listed.status, listed.written, text_digest(&text))
+    let place = u16_at(fields, 4) as usize;
+    let listed = tarhuspo::tarhuspo_listing(code, place, &mut text[GUARD..end]);
+    Line::ThreeMore(
+        listed.status,
+        listed.written,
+        listed.next,
+        listed.more as u64,
+        text_digest(&text),
+    )
 }
 
 // Record: features u32, instruction's address u64; general registers: start u8, count u8, from the pool of masks.

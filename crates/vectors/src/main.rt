@@ -15,7 +15,7 @@ use number::u16_at;
 // Inputs of each entry point.
 const INPUTS: u64 = 20000;
 
-const CODE_ROOM: usize = 4352;
+const CODE_ROOM: usize = 16640;
 
 fn print(text: &[u8]) {
     io::write_all(STDOUT_FILENO, text);
@@ -48,11 +48,6 @@ fn print_line(line: Line) -> bool {
         }
         Line::Status(status, digest) => {
             print_number(status as u64);
-            print_digest(digest);
-        }
-        Line::OneMore(status, first, digest) => {
-            print_number(status as u64);
-            print_number(first);
             print_digest(digest);
         }
         Line::TwoMore(status, first, second, digest) => {
@@ -96,7 +91,7 @@ fn record_size(entry: Entry) -> usize {
         Entry::Build => 10,
         Entry::Apply => 12,
         Entry::Compose => 20,
-        Entry::Listing => 4,
+        Entry::Listing => 6,
         Entry::Address => 14,
     }
 }

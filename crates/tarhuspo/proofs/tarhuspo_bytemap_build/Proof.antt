@@ -2,7 +2,8 @@ use Prim.Native.Nat.{ℕ}
 use borrow.Author.Needs.{needs}
 use Rattle.bytemap.specs.declared.Built.{Built}
 use Rattle.tarhuspo.specs.declared.TarhuspoBuilt.{TarhuspoBuilt}
-use Rattle.tarhuspo.proofs.Lists.{gives-reason}
+use Rattle.tarhuspo.specs.Lists.{answerStatus, answerReason}
+use Rattle.tarhuspo.proofs.Lists.{gives}
 use Rattle.tarhuspo.proofs.tarhuspo_bytemap_build.Statement.{statement}
 use Rattle.tarhuspo.proofs.tarhuspo_bytemap_build.Tie as tie
 
@@ -17,4 +18,4 @@ tarhuspo-bytemap-build-spec =
     (λ c κs. search needs)
     (λ c κs. search needs)
     (λ c. search needs)
-    (λ c. search (needs, gives-reason (λ (r : Built). r .answer) made) depth 12))
+    (λ c. search (needs, gives made (λ (r : Built). answerStatus (r .answer)) (λ (r : Built). answerReason (r .answer))) depth 12))

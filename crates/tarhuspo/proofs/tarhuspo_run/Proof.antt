@@ -2,7 +2,8 @@ use Prim.Native.Nat.{ℕ}
 use borrow.Author.Needs.{needs}
 use Rattle.run.specs.declared.Ran.{Ran}
 use Rattle.tarhuspo.specs.declared.TarhuspoRan.{TarhuspoRan}
-use Rattle.tarhuspo.proofs.Lists.{gives-reason}
+use Rattle.tarhuspo.specs.Lists.{answerStatus, answerReason}
+use Rattle.tarhuspo.proofs.Lists.{gives}
 use Rattle.tarhuspo.proofs.tarhuspo_run.Statement.{statement}
 use Rattle.tarhuspo.proofs.tarhuspo_run.Tie as tie
 
@@ -17,4 +18,4 @@ tarhuspo-run-spec =
     (λ c κs. search needs)
     (λ c κs. search needs)
     (λ c. search needs)
-    (λ c. search (needs, gives-reason (λ (r : Ran). r .answer) made) depth 12))
+    (λ c. search (needs, gives made (λ (r : Ran). answerStatus (r .answer)) (λ (r : Ran). answerReason (r .answer))) depth 12))

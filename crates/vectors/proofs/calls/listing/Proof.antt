@@ -6,11 +6,12 @@ use Rattle.vectors.proofs.calls.listing.Tie as tie
 
 returns : tie.Need-returns-2
 returns c =
-    let l = c .before .before .before in
-    let t = l .before .before in
+    let l = c .before .before .before .before in
+    let p = l .before .before in
+    let t = p .before in
     let s = t .before in
     let e = s .before in
-    rw (← e .before .u16-at .ensures, le-ltb 28144 _ (e .if1 .left), ← s .u16-at2 .ensures, ← t .text .ensures)
+    rw (← e .before .u16-at .ensures, le-ltb 28144 _ (e .if1 .left), ← s .u16-at2 .ensures, ← t .text .ensures, ← p .u16-at3 .ensures)
     (calls _ _ _ _ _ (l .tarhuspo-listing .ensures .0) (l .tarhuspo-listing .ensures .1) (c .text-digest .ensures))
 
 pub listing-spec : {M : Type 1} → statement M
@@ -23,9 +24,12 @@ listing-spec =
     (λ c κs. search needs)
     (λ c κs. search needs)
     (λ c. search needs)
+    (λ c κs. search needs)
+    (λ c. search needs)
     (λ c. search needs)
     (λ c. search needs)
     (λ c. search needs)
     (λ c κs. search needs)
+    (λ c. search needs)
     (λ c κs. search needs)
     returns)
