@@ -12,14 +12,14 @@ pub const MASK_COUNT: usize = 8;
 pub const GPR_COUNT: usize = 16;
 /// Bytes of one lane.
 pub const LANE_SIZE: usize = 16;
-/// Most bytes of a list.
-pub const CODE_LIMIT: usize = 4_096;
+/// Most bytes of a list (request 5).
+pub const CODE_LIMIT: usize = 16_384;
 /// Entries of a byte map (document 01: route sheet), one for each byte of the file.
 pub const MAP_SIZE: usize = FILE_SIZE;
 /// The byte map entry for a zero byte.
 pub const MAP_ZERO: u16 = 2_048;
-/// Least bytes of the listing's text (request 3): the header, and 27 for each of 1,024 lines.
-pub const TEXT_SIZE: usize = 27_672;
+/// Least bytes of the text that a piece of a listing is written to (request 5).
+pub const TEXT_LEAST: usize = 64;
 
 /// Feature bits.
 pub mod feature {

@@ -4,7 +4,7 @@ use crate::sample::Sample;
 use crate::support::{Random, ALL};
 use reference::{
     address, apply, build, compose, decode, listing, reserved_field, run, step, Addressed, Decoded,
-    Field,
+    Field, Listed,
 };
 
 const SIZES: [usize; 8] = [0, 1, 2_047, 2_048, 2_048, 2_048, 2_049, 4_097];
@@ -31,7 +31,7 @@ fn code(random: &mut Random) -> Vec<u8> {
         _ => code.truncate(random.below(13)),
     }
     if random.below(50) == 0 {
-        code = code.repeat(600);
+        code = code.repeat(random.pick(&[600, 2_000]));
     }
     code
 }
@@ -130,7 +130,7 @@ fn running_building_and_listing() {
         let masks = masks(&mut random);
         let size = random.pick(&SIZES);
         let mut file = random.bytes(size);
-        let ran = run(&code, &mut file, &masks, features, 1_024);
+        let ran = run(&code, &mut file, &masks, features, 4_096);
         assert!(ran.place as usize <= code.len() && ran.steps <= ran.place / 4);
         check_reason(ran.status, ran.reason);
         let start = map(&mut random);
@@ -139,10 +139,37 @@ fn running_building_and_listing() {
         assert!(built.status <= 8 && built.place as usize <= code.len());
         assert!(built.status == 0 || map == start);
         check_reason(built.status, built.reason);
-        let mut text = vec![0; random.pick(&[0, 25_624, 27_671, 27_672, 27_673])];
-        let listed = listing(&code, &mut text);
-        assert_eq!(listed.written == 0, listed.status != 0);
+        let size = random.pick(&[0, 63, 64, 64, 65, 100, 27_672, 70_000]);
+        check_listing(&code, size, &mut random);
     }
+}
+
+/// Lists a piece from any place, and checks what holds of every answer.
+fn check_listing(code: &[u8], size: usize, random: &mut Random) {
+    let end = code.len();
+    let inside = random.below(end + 1);
+    let place = random.pick(&[0, inside, inside, end, end + 1, usize::MAX]);
+    let mut text = vec![0xEE; size];
+    let listed = listing(code, place, &mut text);
+    let status = match (size, place) {
+        (0..64, _) => 1,
+        _ if place > end => 1,
+        _ if end > 16_384 => 8,
+        _ => 0,
+    };
+    let refusal = Listed {
+        status,
+        ..Listed::default()
+    };
+    assert_eq!(listed.status, status);
+    assert!(status == 0 || listed == refusal);
+    let (written, rest) = text.split_at(listed.written as usize);
+    assert!(rest.iter().all(|&byte| byte == 0xEE));
+    assert!(written.is_empty() || written.ends_with(b"\n"));
+    let next = listed.next as usize;
+    assert!(status != 0 || (place..=end).contains(&next));
+    // Lines remain within the list only, and behind at least one line.
+    assert!(!listed.more || (place < next && next < end));
 }
 
 #[test]

@@ -137,7 +137,7 @@ fn applying_is_running() {
         assert!(map.iter().all(|&entry| entry <= ZERO));
         let mut ran = random.file();
         let mut applied = ran.clone();
-        assert_eq!(run(&code, &mut ran, &masks, ALL, 1_024).status, 0);
+        assert_eq!(run(&code, &mut ran, &masks, ALL, 4_096).status, 0);
         assert_eq!(apply(&map, &mut applied), 0);
         assert!(applied == ran);
     }
@@ -209,7 +209,7 @@ fn steps_that_a_map_cannot_describe() {
 
 #[test]
 fn building_refuses_in_order() {
-    let long = VUNPCKLPS.repeat(1_025);
+    let long = VUNPCKLPS.repeat(4_097);
     for code in [&[][..], &VUNPCKLPS, &long, &[0x90]] {
         refused(code, &[0; 7], ALL, built(0, 1));
         refused(code, &[0; 9], ALL, built(0, 1));
@@ -221,7 +221,9 @@ fn building_refuses_in_order() {
         }
     }
     refused(&long, &OPEN, ALL, built(0, 8));
-    map_of(&long[..4_096], &OPEN);
+    refused(&long[..16_385], &OPEN, ALL, built(0, 8));
+    map_of(&long[..16_384], &OPEN);
+    map_of(&long[..4_100], &OPEN);
     let code = [&VUNPCKLPS[..], &VUNPCKLPS[..3]].concat();
     refused(&code, &OPEN, ALL, built(4, 2));
     let code = [&VUNPCKLPS[..], &[0x90]].concat();

@@ -1,4 +1,4 @@
-//! Tests of the reference against document 01, requests 1, 3 and 4 and the manual pages.
+//! Tests of the reference against document 01, requests 1, 3, 4 and 5 and the manual pages.
 
 mod addresses;
 mod any_input;

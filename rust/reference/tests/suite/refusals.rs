@@ -190,7 +190,7 @@ fn memory_is_wanted_even_under_an_empty_mask() {
 #[test]
 fn later_bytes_do_not_count() {
     let mut code = VPSHUFD.to_vec();
-    code.resize(10_000, 0xFF);
+    code.resize(20_000, 0xFF);
     let mut file = varied_file();
     let stepped = step(&code, &mut file, &OPEN, ALL, &[]);
     let done = Stepped {

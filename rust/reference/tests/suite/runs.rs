@@ -30,7 +30,7 @@ fn check_run(code: &[u8], budget: u64, expected: Ran, steps: &[&[u8]]) {
 #[test]
 fn empty_list() {
     check_run(&[], 0, ran(0, 0, 0), &[]);
-    check_run(&[], 1_024, ran(0, 0, 0), &[]);
+    check_run(&[], 4_096, ran(0, 0, 0), &[]);
 }
 
 #[test]
@@ -82,7 +82,7 @@ fn missing_features_stop_a_run() {
 
 #[test]
 fn sizes_come_before_the_list_limit() {
-    let long = VUNPCKLPS.repeat(1_025);
+    let long = VUNPCKLPS.repeat(4_097);
     for code in [&[][..], &VPSHUFD, &long] {
         for budget in [0, 1] {
             for size in [0, 2_047, 2_049] {
@@ -101,22 +101,52 @@ fn sizes_come_before_the_list_limit() {
 
 #[test]
 fn the_list_limit() {
-    let full = VUNPCKLPS.repeat(1_024);
-    let mut file = varied_file();
-    assert_eq!(
-        run(&full, &mut file, &OPEN, ALL, 1_024),
-        ran(1_024, 4_096, 0)
-    );
-    assert_eq!(
-        run(&full, &mut file, &OPEN, ALL, 1_023),
-        ran(1_023, 4_092, 0)
-    );
-    let over = [&full[..], &[0x90]].concat();
-    for budget in [0, 1] {
-        let mut file = varied_file();
-        assert_eq!(run(&over, &mut file, &OPEN, ALL, budget), ran(0, 0, 8));
-        assert_eq!(file, varied_file());
+    let full = VUNPCKLPS.repeat(4_096);
+    // 4,096 bytes and a budget of 1,024 were the most before request 5.
+    for (budget, steps) in [
+        (1_023, 1_023),
+        (1_024, 1_024),
+        (1_025, 1_025),
+        (4_095, 4_095),
+        (4_096, 4_096),
+        (4_097, 4_096),
+        (u64::MAX, 4_096),
+    ] {
+        let all = vec![&VUNPCKLPS[..]; steps as usize];
+        check_run(&full, budget, ran(steps, 4 * steps, 0), &all);
     }
+    let over = [&full[..], &[0x90]].concat();
+    for code in [&over[..], &VUNPCKLPS.repeat(4_097)] {
+        for budget in [0, 1] {
+            let mut file = varied_file();
+            assert_eq!(run(code, &mut file, &OPEN, ALL, budget), ran(0, 0, 8));
+            assert_eq!(file, varied_file());
+        }
+    }
+    let all = vec![&VUNPCKLPS[..]; 4_095];
+    check_run(&full[..16_383], 4_096, ran(4_095, 16_380, 2), &all);
+}
+
+/// A run of n, then one of m on the rest and on the file that it left, against a run of n + m.
+fn check_parts(code: &[u8], n: u64, m: u64, random: &mut Random) {
+    let masks = random.masks();
+    let start = random.file();
+    let mut whole = start.clone();
+    let expected = run(code, &mut whole, &masks, ALL, n + m);
+    let mut parts = start;
+    let first = run(code, &mut parts, &masks, ALL, n);
+    if first.status != 0 {
+        return;
+    }
+    let second = run(&code[first.place as usize..], &mut parts, &masks, ALL, m);
+    let [steps, place] = [first.steps + second.steps, first.place + second.place];
+    let sum = Ran {
+        steps,
+        place,
+        ..second
+    };
+    assert_eq!(sum, expected);
+    assert!(parts == whole);
 }
 
 #[test]
@@ -126,24 +156,19 @@ fn a_run_in_two_parts_is_one_run() {
         let count = random.below(20);
         let samples = (0..count).map(|_| Sample::random(&mut random).encode());
         let code: Vec<u8> = samples.flatten().collect();
-        let masks = random.masks();
-        let start = random.file();
         let [n, m] = [random.below(10) as u64, random.below(10) as u64];
-        let mut whole = start.clone();
-        let expected = run(&code, &mut whole, &masks, ALL, n + m);
-        let mut parts = start;
-        let first = run(&code, &mut parts, &masks, ALL, n);
-        if first.status != 0 {
-            continue;
+        check_parts(&code, n, m, &mut random);
+    }
+}
+
+/// Budgets up to 4,096 each (request 5).
+#[test]
+fn long_runs_in_two_parts() {
+    let mut random = Random(6);
+    let full = VUNPCKLPS.repeat(4_096);
+    for n in [0, 1_023, 1_024, 1_025, 4_095, 4_096] {
+        for m in [0, 1_024, 4_095, 4_096] {
+            check_parts(&full, n, m, &mut random);
         }
-        let second = run(&code[first.place as usize..], &mut parts, &masks, ALL, m);
-        let [steps, place] = [first.steps + second.steps, first.place + second.place];
-        let sum = Ran {
-            steps,
-            place,
-            ..second
-        };
-        assert_eq!(sum, expected);
-        assert!(parts == whole);
     }
 }
