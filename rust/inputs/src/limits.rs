@@ -6,15 +6,21 @@ pub const FILE_SIZE: usize = 2_048;
 pub const MASK_COUNT: usize = 8;
 /// General registers.
 pub const GPR_COUNT: usize = 16;
-/// Most bytes of a list.
-pub const CODE_LIMIT: usize = 4_096;
+/// Most bytes of a list, and what that was before request 5.
+pub const CODE_LIMIT: usize = 16_384;
+pub const OLD_CODE_LIMIT: usize = 4_096;
+/// A budget that is enough for every list, and what that was before request 5.
+pub const MOST_STEPS: u64 = 4_096;
+pub const OLD_MOST_STEPS: u64 = 1_024;
 /// Entries of a byte map.
 pub const MAP_SIZE: usize = FILE_SIZE;
 /// The byte map entry for a zero byte.
 pub const MAP_ZERO: u16 = 2_048;
-/// Least bytes of the listing's text, and what that was before request 3.
-pub const TEXT_SIZE: usize = 27_672;
-pub const OLD_TEXT_SIZE: usize = 25_624;
+/// Least bytes of a listing's text, and what that was before requests 3 and 5.
+pub const TEXT_LEAST: usize = 64;
+pub const OLD_TEXT_SIZES: [usize; 2] = [25_624, 27_672];
+/// A text of so many bytes holds the listing of every list.
+pub const TEXT_WHOLE: usize = 110_616;
 
 /// Feature bits.
 pub mod features {
