@@ -24,7 +24,7 @@ const _: () = assert!(size_of::<Built>() == 16 && align_of::<Built>() == 8);
 /// Writes the byte map of a list of instructions into `map`, whatever that held before.
 ///
 /// Applying the map does to every register file what running `code` with the same `masks` and
-/// `features` does. `code` has at most 4,096 bytes. Instructions with a memory operand, VPERMB,
+/// `features` does. `code` has at most 16,384 bytes. Instructions with a memory operand, VPERMB,
 /// VPSHUFB, and VPERMILPD or VPERMILPS with its control in a register are refused with status 7:
 /// what they move depends on more than code and opmasks. A refusal changes no entry.
 ///
@@ -43,7 +43,7 @@ const _: () = assert!(size_of::<Built>() == 16 && align_of::<Built>() == 8);
 /// let mut mapped: [u8; FILE_SIZE] = std::array::from_fn(|i| i as u8);
 /// let mut stepped = mapped;
 /// assert_eq!(bytemap_apply(&map, &mut mapped), 0);
-/// assert_eq!(run(&code, &mut stepped, &masks, features::ALL, 1_024).status, 0);
+/// assert_eq!(run(&code, &mut stepped, &masks, features::ALL, 4_096).status, 0);
 /// assert_eq!(mapped, stepped);
 /// ```
 pub fn bytemap_build(code: &[u8], masks: &[u64], features: u32, map: &mut [u16]) -> Built {

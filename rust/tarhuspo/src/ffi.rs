@@ -3,7 +3,7 @@
 //! Every pointer must be non-null, aligned and valid for its length, also where that is 0, and a
 //! buffer that is written to must not overlap another.
 
-use crate::{Built, Decoded, Listed, Ran, Stepped};
+use crate::{Built, Decoded, Ran, Stepped};
 
 /// The struct of the header, where a yes or no is a number. [`crate::Addressed`] has it as a bool.
 #[repr(C)]
@@ -16,6 +16,18 @@ pub struct Addressed {
 
 // The proved library was compiled for this layout: a number of 8 bytes, three of 4, and padding.
 const _: () = assert!(size_of::<Addressed>() == 24 && align_of::<Addressed>() == 8);
+
+/// The struct of the header, as above. [`crate::Listed`] has `more` as a bool.
+#[repr(C)]
+pub struct Listed {
+    pub written: u64,
+    pub next: u64,
+    pub status: u32,
+    pub more: u32,
+}
+
+// The proved library was compiled for this layout: two numbers of 8 bytes, two of 4, no padding.
+const _: () = assert!(size_of::<Listed>() == 24 && align_of::<Listed>() == 8);
 
 extern "C" {
     pub fn tarhuspo_decode(code: *const u8, code_len: usize, features: u32) -> Decoded;
@@ -81,6 +93,7 @@ extern "C" {
     pub fn tarhuspo_listing(
         code: *const u8,
         code_len: usize,
+        place: usize,
         text: *mut u8,
         text_len: usize,
     ) -> Listed;

@@ -23,11 +23,11 @@ const _: () = assert!(size_of::<Ran>() == 24 && align_of::<Ran>() == 8);
 /// Carries out the instructions of `code`, at most `budget` of them, one after the other.
 ///
 /// `file`, `masks` and `features` are those of [`step`](crate::step()). There is no memory operand,
-/// so a memory form is refused with status 6. `code` has at most 4,096 bytes.
+/// so a memory form is refused with status 6. `code` has at most 16,384 bytes.
 ///
 /// A run ends at the end of the code, at an instruction that is refused, or when the budget is
 /// spent. The instructions before that have been carried out. No list needs a larger budget than
-/// 1,024.
+/// 4,096.
 ///
 /// ```
 /// use tarhuspo::limits::{FILE_SIZE, MASK_COUNT};
@@ -37,7 +37,7 @@ const _: () = assert!(size_of::<Ran>() == 24 && align_of::<Ran>() == 8);
 /// // vunpcklps xmm1, xmm2, xmm3, then vpshufd xmm1, xmm1, 0x1b, then a byte that starts nothing.
 /// let code = [0xC5, 0xE8, 0x14, 0xCB, 0xC5, 0xF9, 0x70, 0xC9, 0x1B, 0x90];
 ///
-/// let ran = run(&code, &mut file, &masks, features::ALL, 1_024);
+/// let ran = run(&code, &mut file, &masks, features::ALL, 4_096);
 /// assert_eq!((ran.steps, ran.place, ran.status), (2, 9, 3));
 ///
 /// // With the budget spent, the next instruction is not looked at.
@@ -54,7 +54,7 @@ const _: () = assert!(size_of::<Ran>() == 24 && align_of::<Ran>() == 8);
 /// # let (mut file, masks) = ([1; FILE_SIZE], [0; MASK_COUNT]);
 /// // vunpcklps xmm1, xmm2, xmm3, then vperm2f128 with L 0.
 /// let code = [0xC5, 0xE8, 0x14, 0xCB, 0xC4, 0xE3, 0x69, 0x06, 0xCB, 0x31];
-/// let ran = run(&code, &mut file, &masks, features::ALL, 1_024);
+/// let ran = run(&code, &mut file, &masks, features::ALL, 4_096);
 /// assert_eq!((ran.place, ran.status, ran.reason), (4, 4, reason::WIDTH));
 /// ```
 pub fn run(code: &[u8], file: &mut [u8], masks: &[u64], features: u32, budget: u64) -> Ran {

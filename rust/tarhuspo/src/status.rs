@@ -15,14 +15,14 @@
 pub fn describe(status: u32) -> &'static str {
     match status {
         0 => "The input was accepted.",
-        1 => "A buffer has the wrong size, or the feature number is out of range.",
+        1 => "A buffer has the wrong size, or the features or a listing's place are out of range.",
         2 => "The bytes end before the instruction does.",
         3 => "The bytes are not one of the supported instructions.",
         4 => "A reserved field of the encoding has a value that raises #UD.",
         5 => "The instruction needs a feature that is not enabled (#UD).",
         6 => "The memory operand does not have exactly the length that the instruction reads.",
         7 => "A byte map cannot describe an instruction with a memory operand or register control.",
-        8 => "The code is longer than the 4,096 bytes that one call takes.",
+        8 => "The code is longer than the 16,384 bytes that one call takes.",
         9 => "A byte map has an entry above 2,048.",
         _ => "This is not a status number of the library.",
     }
