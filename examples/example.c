@@ -25,6 +25,8 @@
 
 static const uint8_t list[] = {UNPACK, SHUFFLE};
 static const uint8_t list_twice[] = {UNPACK, SHUFFLE, UNPACK, SHUFFLE};
+static const uint8_t list_long[] = {UNPACK, SHUFFLE, UNPACK, SHUFFLE,
+                                    UNPACK, SHUFFLE, UNPACK, SHUFFLE};
 
 /* vpshufd zmm1{k1}, dword ptr [rbx + r12*4 - 8]{1to16}, 0x1b */
 static const uint8_t broadcast[] = {0x62, 0xB1, 0x7D, 0x59, 0x70, 0x4C, 0xA3, 0xFE, 0x1B};
@@ -178,15 +180,30 @@ static void maps(void)
            tarhuspo_bytemap_apply(both, TARHUSPO_MAP_SIZE, file, sizeof file));
 }
 
-/* The text of a listing is not terminated: written says where it ends. */
+/*
+ * A listing comes in pieces of whole lines, so that a small buffer is enough for any list. The text
+ * is not terminated: written says where it ends.
+ */
 static void listing(void)
 {
-    static uint8_t text[TARHUSPO_TEXT_SIZE];
-    tarhuspo_listed l = tarhuspo_listing(list_twice, sizeof list_twice - 1, text, sizeof text);
+    uint8_t text[128];
+    uint64_t bytes = 0;
+    unsigned pieces = 0;
+    size_t place = 0;
+    tarhuspo_listed l;
 
-    check("listing", l.status);
-    printf("listing: %" PRIu64 " bytes\n", l.written);
-    fwrite(text, 1, (size_t)l.written, stdout);
+    printf("listing: with %u bytes of text\n", (unsigned)sizeof text);
+    /* The last instruction lacks a byte, and its line says so. */
+    do {
+        l = tarhuspo_listing(list_long, sizeof list_long - 1, place, text, sizeof text);
+        check("listing", l.status);
+        fwrite(text, 1, (size_t)l.written, stdout);
+        bytes += l.written;
+        pieces++;
+        place = (size_t)l.next;
+    } while (l.more);
+    printf("         %" PRIu64 " bytes in %u pieces, ended at place %" PRIu64 "\n", bytes, pieces,
+           l.next);
 }
 
 int main(void)

@@ -33,8 +33,8 @@ extern "C" {
  * size or limit, an answer that changes for some input. MINOR moves when something is only added: a
  * function, a constant, an instruction that status 3 refused before.
  */
-#define TARHUSPO_VERSION_MAJOR 3
-#define TARHUSPO_VERSION_MINOR 1
+#define TARHUSPO_VERSION_MAJOR 4
+#define TARHUSPO_VERSION_MINOR 0
 
 /* Processor features: add those that the processor has. */
 #define TARHUSPO_AVX UINT32_C(1)
@@ -69,10 +69,11 @@ extern "C" {
 /* The entry of a byte map that stands for a zero byte. */
 #define TARHUSPO_MAP_ZERO 2048
 /* Most bytes of a list of instructions, and a number of instructions that no list exceeds. */
-#define TARHUSPO_CODE_LIMIT 4096
-#define TARHUSPO_MOST_STEPS 1024
-/* Least bytes of the text of a listing. Every listing fits. */
-#define TARHUSPO_TEXT_SIZE 27672
+#define TARHUSPO_CODE_LIMIT 16384
+#define TARHUSPO_MOST_STEPS 4096
+/* Least bytes of text for a piece of a listing, and a number of them that holds a whole one. */
+#define TARHUSPO_TEXT_LEAST 64
+#define TARHUSPO_TEXT_WHOLE 110616
 
 /*
  * A decoded instruction.
@@ -206,7 +207,7 @@ tarhuspo_stepped tarhuspo_step(const uint8_t *code, size_t code_len, uint8_t *fi
  * of these that applies:
  *
  *  1  file_len is not 2048, masks_len is not 8, or features is over 63.
- *  8  code_len is over 4096.
+ *  8  code_len is over 16384.
  *  2 to 6  The instruction at place is refused: as tarhuspo_step without memory, with its reason.
  *     Every memory form that is not refused with 2 to 5 is refused with 6.
  *
@@ -221,7 +222,7 @@ typedef struct {
 
 /*
  * Carries out the instructions of code, one behind the other, at most budget of them. The one after
- * a spent budget is not looked at. 1024 is enough for every list, since no instruction is shorter
+ * a spent budget is not looked at. 4096 is enough for every list, since no instruction is shorter
  * than 4 bytes.
  *
  * The register file is left as steps calls of tarhuspo_step leave it, also if a later instruction
@@ -237,7 +238,7 @@ tarhuspo_ran tarhuspo_run(const uint8_t *code, size_t code_len, uint8_t *file, s
  * status is 0 if the map was written. Otherwise it is the first of these that applies:
  *
  *  1  map_len is not 2048, masks_len is not 8, or features is over 63.
- *  8  code_len is over 4096.
+ *  8  code_len is over 16384.
  *  2 to 5, 7  The instruction at place is refused: 2 to 5 as tarhuspo_decode, with its reason,
  *     then 7 for a memory form, and for one whose control is in a register (VPERMB, VPSHUFB, and
  *     VPERMILPD or VPERMILPS without an immediate).
@@ -291,31 +292,59 @@ uint32_t tarhuspo_bytemap_compose(const uint16_t *first, size_t first_len, const
                                   size_t second_len, uint16_t *out, size_t out_len);
 
 /*
- * The result of a listing.
+ * The result of a listing, which is one piece of its text.
  *
- * status is 0 if the text was written, also for code that is refused. Otherwise it is the first of
- * these that applies, and written is 0:
+ * status is 0 if the piece was written, also for code that is refused. Otherwise it is the first of
+ * these that applies, and written, next and more are 0:
  *
- *  1  text_len is under 27672.
- *  8  code_len is over 4096.
+ *  1  text_len is under 64, or place is over code_len.
+ *  8  code_len is over 16384.
  */
 typedef struct {
     uint64_t written; /* bytes of text that were written */
+    uint64_t next;    /* the place of the next piece if more is 1, else where the listing ended */
     uint32_t status;  /* 0, or 1 or 8 as above */
+    uint32_t more;    /* 1 if lines remain, else 0 */
 } tarhuspo_listed;
 
 /*
- * Writes a list of instructions as text: a line of headings (at, len, name, bits, answer), then for
- * each instruction a line with its place, length, mnemonic, vector width in bits, and 0. All
+ * Writes a list of instructions as text, one piece in each call: from place on, as many whole lines
+ * as fit. With place 0, and only then, a line of headings stands in front (at, len, name, bits,
+ * answer).
+ *
+ * Each instruction has a line with its place, length, mnemonic, vector width in bits, and 0. All
  * features count as there, and memory forms are listed like others. The first instruction that
  * tarhuspo_decode refuses has the last line: its place, 0, -, 0, and the status. Behind status 4
  * stand a colon and the reason: 4:1 to 4:6. Numbers are decimal, a tab stands between fields, and a
  * newline ends every line, also the last. No null byte is added.
  *
+ * Every place, in text too, is counted in bytes from the start of code. place may be any up to
+ * code_len: inside an instruction, the bytes from there on are decoded.
+ *
+ *  - If a line does not fit, that of a refused instruction included, more is 1, and next is where
+ *    its instruction starts.
+ *  - If the line of a refused instruction was written, more is 0, and next is where that starts.
+ *  - If the code has ended, more is 0, and next is code_len. So a place of code_len gives no line,
+ *    but if that is 0 the headings.
+ *
+ * If more is 1, next is over place, since 64 bytes hold the headings and another line. So this loop
+ * ends, also after a refusal, and its pieces make up one text, whatever each call's text_len is:
+ *
+ *     size_t place = 0;
+ *     tarhuspo_listed l;
+ *     do {
+ *         l = tarhuspo_listing(code, code_len, place, text, text_len);
+ *         fwrite(text, 1, (size_t)l.written, stdout);
+ *         place = (size_t)l.next;
+ *     } while (l.more);
+ *
+ * With TARHUSPO_TEXT_WHOLE bytes of text there is one piece. A call looks at no code in front of
+ * place: it takes as long as its lines do, wherever they stand.
+ *
  * If status is 0, the first written bytes of text are changed and no others. Otherwise nothing is
  * changed. code is never written to.
  */
-tarhuspo_listed tarhuspo_listing(const uint8_t *code, size_t code_len, uint8_t *text,
+tarhuspo_listed tarhuspo_listing(const uint8_t *code, size_t code_len, size_t place, uint8_t *text,
                                  size_t text_len);
 
 #ifdef __cplusplus
