@@ -47,21 +47,42 @@ fn c_program_runs_against_the_archive() {
                     refused apply: 9\n\
                     reserved build: 4 4, reason 3\n\
                     reserved run: 1 4 4, reason 3\n\
-                    refused listing: 0 1, byte 0\n\
-                    listing: 72 0\n\
+                    short text: 0 0 1 0, changed 0\n\
+                    place behind: 0 0 1 0, changed 0\n\
+                    listing: 72 9 0 0, changed 72\n\
                     at\tlen\tname\tbits\tanswer\n\
                     0\t4\tVUNPCKLPS\t128\t0\n\
                     4\t5\tVPSHUFD\t128\t0\n\
                     9\t0\t-\t0\t3\n\
-                    reserved listing: 56 0\n\
+                    first piece: 62 9 0 1, changed 62\n\
                     at\tlen\tname\tbits\tanswer\n\
                     0\t4\tVUNPCKLPS\t128\t0\n\
-                    4\t0\t-\t0\t4:3\n";
+                    4\t5\tVPSHUFD\t128\t0\n\
+                    second piece: 10 9 0 0, changed 10\n\
+                    9\t0\t-\t0\t3\n\
+                    inside: 10 5 0 0, changed 10\n\
+                    5\t0\t-\t0\t3\n\
+                    at the end: 0 10 0 0, changed 0\n\
+                    empty listing: 24 0 0 0, changed 24\n\
+                    at\tlen\tname\tbits\tanswer\n\
+                    reserved listing: 56 4 0 0, changed 56\n\
+                    at\tlen\tname\tbits\tanswer\n\
+                    0\t4\tVUNPCKLPS\t128\t0\n\
+                    4\t0\t-\t0\t4:3\n\
+                    run: 4096 16384 0, build: 16384 0\n\
+                    listing: 95550 16384 0 0, changed 95550\n\
+                    last line: 24 16384 0 0, changed 24\n\
+                    16380\t4\tVUNPCKLPS\t128\t0\n\
+                    short text: 0 0 1 0, changed 0\n\
+                    run: 0 0 8, build: 0 8\n\
+                    listing: 0 0 8 0, changed 0\n\
+                    last line: 0 0 8 0, changed 0\n\
+                    short text: 0 0 1 0, changed 0\n";
     assert_eq!(printed, expected);
 }
 
 /// The constants of the Rust wrapper, under the names that the header gives them.
-const CONSTANTS: [(&str, u64); 22] = [
+const CONSTANTS: [(&str, u64); 23] = [
     ("VERSION_MAJOR", version::MAJOR as u64),
     ("VERSION_MINOR", version::MINOR as u64),
     ("AVX", features::AVX as u64),
@@ -83,7 +104,8 @@ const CONSTANTS: [(&str, u64); 22] = [
     ("MAP_ZERO", limits::MAP_ZERO as u64),
     ("CODE_LIMIT", limits::CODE_LIMIT as u64),
     ("MOST_STEPS", limits::MOST_STEPS),
-    ("TEXT_SIZE", limits::TEXT_SIZE as u64),
+    ("TEXT_LEAST", limits::TEXT_LEAST as u64),
+    ("TEXT_WHOLE", limits::TEXT_WHOLE as u64),
 ];
 
 #[test]
@@ -92,7 +114,7 @@ fn constants_are_those_of_the_wrapper() {
     assert_eq!(printed("constants.c", "c_constants"), lines.concat());
 }
 
-/// What requests 3 and 4 say in numbers, and the version that they made.
+/// What requests 3, 4 and 5 say in numbers, and the version that they made.
 #[test]
 fn constants_of_requests() {
     let reasons = [
@@ -104,9 +126,14 @@ fn constants_of_requests() {
         reason::Z,
     ];
     assert_eq!(reasons, [1, 2, 3, 4, 5, 6]);
-    assert_eq!(limits::TEXT_SIZE, 27_672);
     assert_eq!(limits::GPR_COUNT, 16);
-    assert_eq!((version::MAJOR, version::MINOR), (3, 1));
+    assert_eq!((limits::CODE_LIMIT, limits::MOST_STEPS), (16_384, 4_096));
+    // The headings have 24 bytes, and request 3 allows a line 27.
+    assert_eq!(
+        (limits::TEXT_LEAST, limits::TEXT_WHOLE),
+        (64, 24 + 27 * 4_096)
+    );
+    assert_eq!((version::MAJOR, version::MINOR), (4, 0));
 }
 
 /// None is left out above.

@@ -34,6 +34,7 @@ int main(void)
     PRINT(MAP_ZERO);
     PRINT(CODE_LIMIT);
     PRINT(MOST_STEPS);
-    PRINT(TEXT_SIZE);
+    PRINT(TEXT_LEAST);
+    PRINT(TEXT_WHOLE);
     return 0;
 }

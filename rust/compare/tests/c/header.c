@@ -4,6 +4,7 @@
 #include <inttypes.h>
 #include <stddef.h>
 #include <stdio.h>
+#include <string.h>
 
 #define SIZE(type, size) _Static_assert(sizeof(type) == (size), "size of " #type)
 #define FIELD(type, name, at) \
@@ -48,9 +49,15 @@ FIELD(tarhuspo_built, place, 0);
 FIELD(tarhuspo_built, status, 8);
 FIELD(tarhuspo_built, reason, 12);
 
-SIZE(tarhuspo_listed, 16);
+SIZE(tarhuspo_listed, 24);
 FIELD(tarhuspo_listed, written, 0);
-FIELD(tarhuspo_listed, status, 8);
+FIELD(tarhuspo_listed, next, 8);
+FIELD(tarhuspo_listed, status, 16);
+FIELD(tarhuspo_listed, more, 20);
+
+/* With other types this is no valid C. */
+static tarhuspo_listed (*const list_piece)(const uint8_t *code, size_t code_len, size_t place,
+                                           uint8_t *text, size_t text_len) = tarhuspo_listing;
 
 static void print(const char *name, tarhuspo_decoded d)
 {
@@ -193,19 +200,59 @@ static void bytemap(void)
     printf("reserved build: %" PRIu64 " %u, reason %u\n", b.place, b.status, b.reason);
 }
 
-static uint8_t text[TARHUSPO_TEXT_SIZE];
+static uint8_t text[TARHUSPO_TEXT_WHOLE];
+
+/* Prints a piece, and how many bytes of text the call has changed. */
+static void piece(const char *name, const uint8_t *code, size_t code_len, size_t place,
+                  size_t text_len)
+{
+    size_t changed = sizeof text;
+    tarhuspo_listed l;
+
+    memset(text, '#', sizeof text);
+    l = list_piece(code, code_len, place, text, text_len);
+    while (changed > 0 && text[changed - 1] == '#')
+        changed--;
+    printf("%s: %" PRIu64 " %" PRIu64 " %u %u, changed %" PRIuMAX "\n", name, l.written, l.next,
+           l.status, l.more, (uintmax_t)changed);
+    if (l.written < 128)
+        printf("%.*s", (int)l.written, (const char *)text);
+}
 
 static void listing(void)
 {
-    tarhuspo_listed l = tarhuspo_listing(list, sizeof list, text, sizeof text - 1);
+    const size_t least = TARHUSPO_TEXT_LEAST;
 
-    printf("refused listing: %" PRIu64 " %u, byte %u\n", l.written, l.status, text[0]);
-    l = tarhuspo_listing(list, sizeof list, text, sizeof text);
-    printf("listing: %" PRIu64 " %u\n%.*s", l.written, l.status, (int)l.written,
-           (const char *)text);
-    l = tarhuspo_listing(reserved_list, sizeof reserved_list, text, sizeof text);
-    printf("reserved listing: %" PRIu64 " %u\n%.*s", l.written, l.status, (int)l.written,
-           (const char *)text);
+    piece("short text", list, sizeof list, 0, least - 1);
+    piece("place behind", list, sizeof list, sizeof list + 1, sizeof text);
+    piece("listing", list, sizeof list, 0, sizeof text);
+    piece("first piece", list, sizeof list, 0, least);
+    piece("second piece", list, sizeof list, 9, least);
+    piece("inside", list, sizeof list, 5, least);
+    piece("at the end", list, sizeof list, sizeof list, least);
+    piece("empty listing", list, 0, 0, least);
+    piece("reserved listing", reserved_list, sizeof reserved_list, 0, sizeof text);
+}
+
+/* A list of the most bytes, and one of a byte more. */
+static void limit(size_t code_len)
+{
+    static uint8_t code[TARHUSPO_CODE_LIMIT + 1];
+    tarhuspo_built b;
+    tarhuspo_ran r;
+    size_t i;
+
+    for (i = 0; i < sizeof code; i++)
+        code[i] = list[i % 4];
+    r = tarhuspo_run(code, code_len, file, sizeof file, masks, TARHUSPO_MASK_COUNT, 63,
+                     TARHUSPO_MOST_STEPS);
+    b = tarhuspo_bytemap_build(code, code_len, masks, TARHUSPO_MASK_COUNT, 63, map,
+                               TARHUSPO_MAP_SIZE);
+    printf("run: %" PRIu64 " %" PRIu64 " %u, ", r.steps, r.place, r.status);
+    printf("build: %" PRIu64 " %u\n", b.place, b.status);
+    piece("listing", code, code_len, 0, sizeof text);
+    piece("last line", code, code_len, code_len - 4, TARHUSPO_TEXT_LEAST);
+    piece("short text", code, code_len, 0, TARHUSPO_TEXT_LEAST - 1);
 }
 
 int main(void)
@@ -217,5 +264,7 @@ int main(void)
     bytemap();
     reserved_run();
     listing();
+    limit(TARHUSPO_CODE_LIMIT);
+    limit(TARHUSPO_CODE_LIMIT + 1);
     return 0;
 }
