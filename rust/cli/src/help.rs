@@ -136,7 +136,7 @@ wrong, and of the first one if several are. What the fields must be:
 ";
 
 const CODE: &str = "
-CODE is a list of instructions, end to end, of at most 4,096 bytes:
+CODE is a list of instructions, end to end, of at most 16,384 bytes:
   hex:C5F970CA1B   the bytes, as pairs of hex digits; with spaces, in quotes
   FILE             a file with the bytes (./hex:x if its name starts with hex:)
   -                standard input
@@ -221,7 +221,7 @@ reason: tarhuspo help decode lists them.
 
   --registers FILE the registers before: 2,048 bytes, zmm0 first, in each the
                    lowest byte first; all zero if not given
-  --budget N       the most instructions to carry out; 1,024 if not given, which
+  --budget N       the most instructions to carry out; 4,096 if not given, which
                    is enough for every list
   --out FILE       where the registers go afterwards, 2,048 bytes; written only
                    if the answer is 0, or with --keep-steps

@@ -11,7 +11,8 @@ use tarhuspo::limits::{CODE_LIMIT, FILE_SIZE, MAP_SIZE, MASK_COUNT};
 
 /// What marks an argument that holds hex text itself.
 const INLINE: &str = "hex:";
-/// Most bytes of a file of hex text: plenty for any list and its comments.
+/// Most bytes of a file of hex text: plenty for any list and its comments, with 64 for each byte of
+/// the longest.
 const TEXT_LIMIT: usize = 1 << 20;
 
 /// Reads inputs, standard input at most once.

@@ -94,6 +94,28 @@ fn each_list_is_compared_with_the_first() {
     assert_eq!(out, expected.concat());
 }
 
+/// Lists of 16,384 bytes, which differ in the last step alone if at all, and one of a byte more.
+#[test]
+fn lists_of_up_to_16384_bytes_are_compared() {
+    let folder = Folder::new("compare_longest");
+    let unpack = [0xC5, 0xE8, 0x14, 0xCB];
+    let one = folder.write("one.bin", unpack.repeat(4_096));
+    // vunpcklps xmm4, xmm2, xmm3 as the last step
+    let last = [0xC5, 0xE8, 0x14, 0xE3];
+    let other = folder.write("other.bin", [unpack.repeat(4_095), last.to_vec()].concat());
+    let long = folder.write("long.bin", vec![0xC5; 16_385]);
+    let (status, out, err) = run(&["compare", &one, "hex:C5E814CB", &other, &long]);
+    assert_eq!((status, err.as_str()), (Some(1), ""));
+    let first = format!("list 1 ('{one}')");
+    let origins = "is kept in list 1 and comes from zmm2[0] in list 3";
+    let expected = [
+        format!("{first} and list 2 ('hex:C5E814CB'): same\n"),
+        format!("{first} and list 3 ('{other}'): differ first in zmm4[0], which {origins}\n"),
+        format!("list 4 ('{long}'): {}\n", refusal(0, 8)),
+    ];
+    assert_eq!(out, expected.concat());
+}
+
 #[test]
 fn the_first_refusal_of_the_first_list_ends_it() {
     let (status, out, err) = run(&["compare", "hex:C5F970CAE490", "hex:90"]);

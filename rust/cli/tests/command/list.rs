@@ -1,8 +1,11 @@
 //! `tarhuspo list`.
 
-use crate::tools::{assert_bad_usage, printed, repository, run, run_with_input, Folder};
-use crate::tools::{WRONG_B, WRONG_VVVV};
+use crate::tools::{assert_bad_usage, command, printed, ran, repository, run, run_with_input};
+use crate::tools::{Folder, Ran, WRONG_B, WRONG_VVVV, WRONG_WIDTH};
+use std::collections::BTreeSet;
 use std::fs;
+use std::io::Read;
+use std::process::Stdio;
 
 const EXAMPLE: [u8; 8] = [0xC5, 0xF9, 0x70, 0xCA, 0x1B, 0xC5, 0xF9, 0x70];
 const LISTING: &str = "at\tlen\tname\tbits\tanswer\n0\t5\tVPSHUFD\t128\t0\n5\t0\t-\t0\t2\n";
@@ -104,20 +107,177 @@ fn reasons_are_listed_and_noted() {
     assert_eq!(note, expected);
 }
 
+/// An instruction, and what its line says of it.
+#[derive(Clone, Copy)]
+struct Step {
+    code: &'static [u8],
+    name: &'static str,
+    bits: u32,
+}
+
+/// vunpcklps xmm1, xmm2, xmm3
+const UNPACK: Step = Step {
+    code: &[0xC5, 0xE8, 0x14, 0xCB],
+    name: "VUNPCKLPS",
+    bits: 128,
+};
+/// vperm2f128 ymm1, ymm2, ymm3, 0x31
+const HALVES: Step = Step {
+    code: &[0xC4, 0xE3, 0x6D, 0x06, 0xCB, 0x31],
+    name: "VPERM2F128",
+    bits: 256,
+};
+/// vpshufd zmm1{k1}{z}, zmm2, 0x1b
+const SHUFFLE: Step = Step {
+    code: &[0x62, 0xF1, 0x7D, 0xC9, 0x70, 0xCA, 0x1B],
+    name: "VPSHUFD",
+    bits: 512,
+};
+
+/// The bytes of a list, and its listing.
+fn listing_of(steps: impl IntoIterator<Item = Step>) -> (Vec<u8>, String) {
+    let (mut code, mut text) = (Vec::new(), HEADINGS.to_string());
+    for step in steps {
+        let (place, length) = (code.len(), step.code.len());
+        text += &format!("{place}\t{length}\t{}\t{}\t0\n", step.name, step.bits);
+        code.extend(step.code);
+    }
+    (code, text)
+}
+
+/// Bytes as hex text, four in a line with a comment behind.
+fn as_hex(code: &[u8]) -> String {
+    let mut text = "# a list with comments\n".to_string();
+    for (line, bytes) in code.chunks(4).enumerate() {
+        for byte in bytes {
+            text += &format!("{byte:02X} ");
+        }
+        text += &format!("   # bytes {} and so on, C5 among them\n", 4 * line);
+    }
+    text
+}
+
+/// What the command says of a list, each way that it may be given.
+fn each_way(folder: &Folder, code: &[u8]) -> [Ran; 5] {
+    let file = folder.write("code.bin", code);
+    let text = as_hex(code);
+    let hex = folder.write("code.hex", &text);
+    let inline: String = code.iter().map(|byte| format!("{byte:02X}")).collect();
+    [
+        run(&["list", &file]),
+        run_with_input(&["list"], code),
+        run(&["list", "--hex", &hex]),
+        run_with_input(&["list", "--hex", "-"], text.as_bytes()),
+        run(&["list", &format!("hex:{inline}")]),
+    ]
+}
+
 #[test]
-fn lists_up_to_4096_bytes() {
-    let step = [0xC5, 0xE8, 0x14, 0xCB];
-    let (status, out, _) = run_with_input(&["list", "-"], &step.repeat(1_024));
-    assert_eq!((status, out.lines().count()), (Some(0), 1_025));
-    assert!(out.ends_with("\n4092\t4\tVUNPCKLPS\t128\t0\n"), "{out}");
+fn lists_up_to_16384_bytes() {
+    let folder = Folder::new("list_lengths");
+    let short = |place: usize| format!("{place}\t0\t-\t0\t2\n");
+    for (count, more, last) in [
+        (0, 0, String::new()),
+        (1_024, 0, String::new()),
+        (1_024, 1, short(4_096)),
+        (4_095, 3, short(16_380)),
+        (4_096, 0, String::new()),
+    ] {
+        let (steps, text) = listing_of(vec![UNPACK; count]);
+        let code = [steps, UNPACK.code[..more].to_vec()].concat();
+        let expected = (Some(0), text + &last, String::new());
+        for (way, found) in each_way(&folder, &code).iter().enumerate() {
+            assert!(*found == expected, "{} bytes, way {way}", code.len());
+        }
+    }
+}
+
+/// Nothing is printed of a list that is too long, and of a very long one not all is read.
+#[test]
+fn longer_lists_are_refused() {
+    let folder = Folder::new("list_too_long");
     let refused = format!("tarhuspo: refused, status 8: {}\n", tarhuspo::describe(8));
     let refused = (Some(1), String::new(), refused);
-    for more in [1, 4, 1_000_000] {
-        let code = [step.repeat(1_024), vec![0xC5; more]].concat();
-        assert_eq!(run_with_input(&["list"], &code), refused, "{more} more");
+    for more in [1, 4, 16_384] {
+        let code = [UNPACK.code.repeat(4_096), vec![0xC5; more]].concat();
+        for (way, found) in each_way(&folder, &code).into_iter().enumerate() {
+            assert_eq!(found, refused, "{more} more, way {way}");
+        }
     }
-    let text = "C5E814CB ".repeat(1_025);
-    assert_eq!(run_with_input(&["list", "--hex"], text.as_bytes()), refused);
+    let code = [UNPACK.code.repeat(4_096), vec![0xC5; 1_000_000]].concat();
+    assert_eq!(run_with_input(&["list"], &code), refused);
+    assert_eq!(run(&["list", "/dev/zero"]), refused);
+}
+
+/// Steps of several lengths, up to the last byte that a list may have. The text would not fit into
+/// 64 KiB.
+#[test]
+fn longest_list_of_mixed_steps() {
+    let folder = Folder::new("list_mixed");
+    let mixed = [UNPACK, SHUFFLE, UNPACK, HALVES, SHUFFLE];
+    let (code, text) = listing_of(mixed.repeat(585).into_iter().chain([UNPACK]));
+    assert_eq!(code.len(), 16_384);
+    assert!(text.len() > 65_536, "{} bytes", text.len());
+    for (way, found) in each_way(&folder, &code).iter().enumerate() {
+        assert!(
+            *found == (Some(0), text.clone(), String::new()),
+            "way {way}"
+        );
+    }
+}
+
+/// A list of accepted steps and VPERM2F128 with L 0 behind them, its listing and its note.
+fn refused_at_the_end(steps: Vec<Step>) -> (Vec<u8>, String, String) {
+    let (mut code, mut text) = listing_of(steps);
+    let place = code.len();
+    text += &format!("{place}\t0\t-\t0\t4:3\n");
+    code.extend([0xC4, 0xE3, 0x69, 0x06, 0xCB, 0x31]);
+    let note = format!("tarhuspo: note: refused at place {place}, status {WRONG_WIDTH}\n");
+    (code, text, note)
+}
+
+/// The texts have every length around 4,096 bytes, which the command prints at a time: the last line
+/// stands in front of that border, across it and behind it.
+#[test]
+fn refused_lines_at_the_border_of_a_piece() {
+    let (mut lengths, wanted) = (BTreeSet::new(), 4_070..4_130);
+    for count in 180..192 {
+        for halves in 0..30 {
+            // Each of the names with a letter more makes the text longer by one.
+            let steps = [vec![UNPACK; count - halves], vec![HALVES; halves]].concat();
+            let (code, text, note) = refused_at_the_end(steps);
+            if wanted.contains(&text.len()) && lengths.insert(text.len()) {
+                let found = run_with_input(&["list"], &code);
+                assert_eq!(found, (Some(0), text, note));
+            }
+        }
+    }
+    assert!(lengths.into_iter().eq(wanted), "a length is not among them");
+}
+
+/// A reader that has seen enough: no failure, and the note is there all the same.
+#[test]
+fn long_listing_into_a_pipe_that_is_closed() {
+    let folder = Folder::new("list_pipe");
+    let (steps, _) = listing_of(vec![UNPACK; 4_000]);
+    let wrong = [0xC5, 0xE9, 0x70, 0xCA, 0x1B];
+    let note = format!("tarhuspo: note: refused at place 16000, status {WRONG_VVVV}\n");
+    for (code, note) in [(steps.clone(), ""), ([&steps[..], &wrong].concat(), &note)] {
+        let file = folder.write("code.bin", code);
+        for read in [0, 1, HEADINGS.len(), 10_000] {
+            let (mut reader, writer) = std::io::pipe().expect("a pipe");
+            let mut command = command();
+            command.args(["list", &file]).stdout(writer);
+            let child = command.stderr(Stdio::piped()).spawn();
+            // The command alone has the other end now.
+            drop(command);
+            reader.read_exact(&mut vec![0; read]).expect("a beginning");
+            drop(reader);
+            let output = child.and_then(|child| child.wait_with_output());
+            let (status, _, err) = ran(output.expect("the command ends"));
+            assert_eq!((status, err.as_str()), (Some(0), note), "{read} bytes read");
+        }
+    }
 }
 
 #[test]

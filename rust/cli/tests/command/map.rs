@@ -38,6 +38,39 @@ fn build_writes_the_entries_of_the_library() {
     assert_eq!(printed_bytes(&["map", "build", "--hex", &text]), expected);
 }
 
+/// What vunpcklps to a register moves, from xmm2 and xmm3.
+fn unpacked(register: u32) -> String {
+    format!(
+        "\
+zmm{register}[0..3] from zmm2[0..3]
+zmm{register}[4..7] from zmm3[0..3]
+zmm{register}[8..11] from zmm2[4..7]
+zmm{register}[12..15] from zmm3[4..7]
+zmm{register}[16..63] zero
+"
+    )
+}
+
+/// vunpcklps xmm1, xmm2, xmm3 again and again, and vunpcklps xmm4, xmm2, xmm3 as the last step.
+#[test]
+fn lists_of_up_to_16384_bytes_have_a_map() {
+    let folder = Folder::new("map_longest");
+    for steps in [1_024, 1_025, 4_096] {
+        let first = [0xC5, 0xE8, 0x14, 0xCB].repeat(steps - 1);
+        let code = [&first[..], &[0xC5, 0xE8, 0x14, 0xE3]].concat();
+        let list = folder.write("long.bin", &code);
+        let map = folder.path("long.map");
+        printed(&["map", "build", &list, "--out", &map]);
+        let expected = unpacked(1) + &unpacked(4);
+        assert_eq!(printed(&["map", "show", &map]), expected, "{steps} steps");
+        let mut entries = [0; 2_048];
+        let built = tarhuspo::bytemap_build(&code, &[0; 8], 63, &mut entries);
+        assert_eq!((built.place, built.status), (code.len() as u64, 0));
+        let bytes: Vec<u8> = entries.into_iter().flat_map(u16::to_le_bytes).collect();
+        assert_eq!(folder.read("long.map"), bytes, "{steps} steps");
+    }
+}
+
 /// vpshufd zmm1{k1}, zmm2, 0xe4 and its mask.
 #[test]
 fn masks_and_features_count() {
@@ -76,8 +109,10 @@ fn refused_lists_write_nothing() {
     }
     let features = ["map", "build", SHUFFLE, "--features", "64"];
     assert_refused(&features, "refused at place 0", 1);
-    let long = folder.write("long.bin", [0xC5; 5_000]);
-    assert_refused(&["map", "build", &long], "refused at place 0", 8);
+    for size in [16_385, 20_000] {
+        let long = folder.write("long.bin", vec![0xC5; size]);
+        assert_refused(&["map", "build", &long], "refused at place 0", 8);
+    }
     assert_eq!(folder.read("kept.map"), b"as before");
     assert_eq!(folder.names(), ["kept.map", "long.bin"]);
 }

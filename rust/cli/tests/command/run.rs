@@ -71,7 +71,7 @@ fn registers_are_zero_if_not_given() {
 /// The file that the library leaves for the same inputs.
 fn library_file(code: &[u8], masks: [u64; 8], features: u32) -> Vec<u8> {
     let mut file = registers();
-    let ran = tarhuspo::run(code, &mut file, &masks, features, 1_024);
+    let ran = tarhuspo::run(code, &mut file, &masks, features, 4_096);
     assert_eq!(ran.status, 0);
     file
 }
@@ -263,12 +263,12 @@ fn a_run_refused_at_once_keeps_the_start() {
     let folder = Folder::new("run_kept_start");
     let before = folder.write("before.bin", registers());
     let after = folder.path("after.bin");
-    let long = folder.write("long.bin", [0xC5; 4_097]);
+    let long = folder.write("long.bin", [0xC5; 16_385]);
     for (code, features, place, status) in [
         ("hex:C5F97008 1B C5E814CB", "63", "0 of 9", 6),
         ("hex:90", "63", "0 of 1", 3),
         ("hex:C5E814CB", "64", "0 of 4", 1),
-        (&long, "63", "0 of 4097", 8),
+        (&long, "63", "0 of 16385", 8),
     ] {
         let given = ["run", code, "--features", features, "--registers", &before];
         let arguments = [&given[..], &["--out", &after]].concat();
@@ -296,7 +296,7 @@ fn a_run_that_ends_well_needs_no_flag() {
     let folder = Folder::new("run_kept_well");
     let before = folder.write("before.bin", registers());
     let [without, with] = ["without.bin", "with.bin"].map(|name| folder.path(name));
-    for budget in ["0", "1", "1024"] {
+    for budget in ["0", "1", "4096"] {
         let given = ["run", LIST, "--budget", budget, "--registers", &before];
         let out = printed(&[&given[..], &["--out", &without]].concat());
         let kept = printed(&[&given[..], &["--out", &with, "--keep-steps"]].concat());
@@ -324,15 +324,44 @@ fn steps_are_kept_in_a_file_alone() {
     assert_bad_usage(&["run", REFUSED, "--keep-steps", "--keep-steps"], twice);
 }
 
+/// vunpcklps xmm1, xmm2, xmm3 again and again, and vunpcklps xmm4, xmm2, xmm3 as the last step.
+#[test]
+fn lists_of_up_to_16384_bytes_are_run_to_the_end() {
+    let folder = Folder::new("run_longest");
+    let before = folder.write("before.bin", registers());
+    let after = folder.path("after.bin");
+    for steps in [1_024, 1_025, 4_096] {
+        let first = [0xC5, 0xE8, 0x14, 0xCB].repeat(steps - 1);
+        let code = [&first[..], &[0xC5, 0xE8, 0x14, 0xE3]].concat();
+        let (last, end) = (first.len(), code.len());
+        let list = folder.write("long.bin", &code);
+        let given = ["run", &list, "--registers", &before, "--out", &after];
+
+        let changed = "zmm1 (bytes 0..63), zmm4 (bytes 0..63)";
+        let expected = report(steps as u64, &format!("{end} of {end}"), END, changed);
+        assert_eq!(printed(&given), expected);
+        let file = folder.read("after.bin");
+        assert!(file == library_file(&code, [0; 8], 63), "{steps} steps");
+
+        let budget = (steps - 1).to_string();
+        let place = format!("{last} of {end}");
+        let expected = report(steps as u64 - 1, &place, SPENT, "zmm1 (bytes 0..63)");
+        let out = printed(&[&given[..], &["--budget", &budget]].concat());
+        assert_eq!(out, expected);
+        let file = folder.read("after.bin");
+        assert!(file == library_file(&first, [0; 8], 63), "a budget spent");
+    }
+}
+
 /// A run of the wrong size or features has no steps, also with a budget of 0.
 #[test]
 fn refusals_of_a_whole_run() {
     let folder = Folder::new("run_whole");
     let before = folder.write("before.bin", registers());
-    let code = folder.write("long.bin", [0xC5; 4_097]);
+    let code = folder.write("long.bin", [0xC5; 16_385]);
     let (status, out, _) = run(&["run", &code, "--budget", "0", "--registers", &before]);
     assert_eq!(status, Some(1));
-    assert_eq!(out, report(0, "0 of 4097", &refusal(8), "none"));
+    assert_eq!(out, report(0, "0 of 16385", &refusal(8), "none"));
     let (status, out, _) = run(&["run", "hex:", "--features", "64", "--registers", &before]);
     assert_eq!(status, Some(1));
     assert_eq!(out, report(0, "0 of 0", &refusal(1), "none"));

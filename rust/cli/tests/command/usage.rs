@@ -5,6 +5,7 @@ use std::ffi::OsString;
 use std::fs::{File, OpenOptions};
 use std::os::unix::ffi::OsStringExt;
 use std::process::{Command, Stdio};
+use tarhuspo::limits::{CODE_LIMIT, MOST_STEPS};
 
 const COMMANDS: [&str; 7] = [
     "list", "decode", "address", "run", "map", "compare", "audit",
@@ -37,6 +38,18 @@ fn help_names_every_instruction_and_feature() {
             assert!(words.contains(&name), "{name} in the help of {command}");
         }
     }
+}
+
+/// What the help says of lists is what the library takes.
+#[test]
+fn help_has_the_limits() {
+    assert_eq!((CODE_LIMIT, MOST_STEPS), (16_384, 4_096));
+    for command in ["list", "run", "map", "compare"] {
+        let limit = "\nCODE is a list of instructions, end to end, of at most 16,384 bytes:\n";
+        assert!(printed(&["help", command]).contains(limit), "{command}");
+    }
+    let budget = "the most instructions to carry out; 4,096 if not given";
+    assert!(printed(&["help", "run"]).contains(budget));
 }
 
 /// The reasons stand where refusals are explained, and the other commands say where that is.
@@ -204,7 +217,12 @@ pub fn full_device() -> Option<File> {
 
 #[test]
 fn output_that_cannot_be_written_is_reported() {
-    for arguments in [&["decode", "90"][..], &["map", "build", "hex:"], &["help"]] {
+    for arguments in [
+        &["decode", "90"][..],
+        &["map", "build", "hex:"],
+        &["help"],
+        &["list", "hex:C5F970CA1B"],
+    ] {
         let Some(full) = full_device() else { return };
         let (status, err) = into_pipe(command().args(arguments), full.into());
         assert_eq!(status, Some(2), "{arguments:?}");
