@@ -3,9 +3,12 @@
 //! Run with `cargo run --release --bin bench`. It reports, and judges nothing.
 
 mod addressing;
+mod calls;
 mod decoding;
 mod inputs;
+mod lengths;
 mod lists;
+mod pieces;
 mod stepping;
 mod timing;
 
@@ -19,6 +22,8 @@ fn main() -> ExitCode {
         addressing::print,
         stepping::print,
         lists::print,
+        lengths::print,
+        pieces::print,
     ];
     for print_table in tables {
         println!();
