@@ -29,8 +29,8 @@ pub const KINDS: [Kind<Decode>; 15] = [
     ("reserved fields, cut", 300, reserved_and_cut),
     ("one bit flipped, cut", 788, flipped_and_cut),
     ("15 bytes from a prefix", 700, behind_prefix),
-    ("any bytes", 300, any_bytes),
-    ("over 4,096 bytes", 12, past_limit),
+    ("any bytes", 309, any_bytes),
+    ("over 16,384 bytes", 3, past_limit),
 ];
 
 impl Input for Decode {

@@ -15,7 +15,7 @@ pub const TEXT_MOST: usize = TEXT_ROOM - 2 * GUARD;
 /// Most opmasks or general registers, bytes of memory and bytes of code of an input.
 pub const MASKS_ROOM: usize = 24;
 pub const MEMORY_MOST: usize = 255;
-pub const CODE_ROOM: usize = 4_352;
+pub const CODE_ROOM: usize = 16_640;
 
 /// Elements of a pool, from `start` on.
 #[derive(Debug, Clone, Copy, PartialEq, Eq)]

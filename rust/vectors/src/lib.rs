@@ -12,6 +12,7 @@ pub mod layout;
 pub mod lists;
 pub mod maker;
 pub mod maps;
+pub mod piece;
 pub mod pools;
 pub mod section;
 pub mod step;

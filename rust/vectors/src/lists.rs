@@ -1,13 +1,14 @@
 //! Inputs of running, building a byte map and listing. They share their lists.
 
 use crate::digest::Digest;
-use crate::layout::{Record, Span, CODE_ROOM, ROOM, TEXT_MOST, TEXT_ROOM};
+use crate::layout::{Record, Span, CODE_ROOM, ROOM, TEXT_ROOM};
 use crate::maker::Maker;
+use crate::piece::{past_end, short_text, Piece};
 use crate::pools::{old_map, passed, Pools};
 use crate::section::{Answer, Input, Kind};
 use inputs::faults::{Fault, FEATURE_SETS};
 use inputs::limits::features::ALL;
-use inputs::limits::{CODE_LIMIT, OLD_TEXT_SIZE, TEXT_SIZE};
+use inputs::limits::{CODE_LIMIT, MOST_STEPS, OLD_CODE_LIMIT, OLD_MOST_STEPS};
 use inputs::lists::{List, Mix};
 use inputs::random::Random;
 
@@ -23,15 +24,17 @@ pub struct ListInput {
     budget: u64,
     file: Span,
     map: Span,
-    text: Span,
+    pub text: Span,
+    /// Where the listing starts.
+    pub place: u16,
 }
 
 pub struct Run<'a>(pub &'a ListInput);
 pub struct Build<'a>(pub &'a ListInput);
 pub struct Listing<'a>(pub &'a ListInput);
 
-pub const KINDS: [Kind<ListInput>; 18] = [
-    ("accepted", 5_228, accepted),
+pub const KINDS: [Kind<ListInput>; 23] = [
+    ("accepted", 4_810, accepted),
     ("short bytes", 1_500, short),
     ("no row", 1_200, no_row),
     ("reserved field", 1_500, reserved),
@@ -44,11 +47,26 @@ pub const KINDS: [Kind<ListInput>; 18] = [
     ("any bytes", 200, any_bytes),
     ("features over 63", 500, wrong_features),
     ("sizes", 1_000, wrong_sizes),
+    ("place past the end", 400, wrong_place),
     ("number of opmasks", 400, wrong_masks),
     ("200 to 1,000 bytes", 100, long),
-    ("4,096 bytes", 24, at_limit),
-    ("over 4,096 bytes", 40, past_limit),
-    ("over 4,096 bytes, sizes", 8, past_limit_wrong_sizes),
+    ("4,096 bytes", 12, at_old_limit),
+    ("over 4,096 bytes", 12, past_old_limit),
+    ("over 4,096 bytes, refused", 12, past_old_limit_refused),
+    ("16,384 bytes", 12, at_limit),
+    ("over 16,384 bytes", 36, past_limit),
+    ("over 16,384 bytes, sizes", 3, past_limit_wrong_sizes),
+    ("over 16,384 bytes, place", 3, past_limit_wrong_place),
+];
+
+/// What a list with all features can be refused for.
+const LATE_FAULTS: [Fault; 6] = [
+    Fault::Short,
+    Fault::NoRow,
+    Fault::Reserved,
+    Fault::SeveralReserved,
+    Fault::Memory,
+    Fault::Control,
 ];
 
 /// For each entry point, what no other input of it has: the record with the list.
@@ -118,17 +136,21 @@ impl Input for Build<'_> {
 
 impl Input for Listing<'_> {
     fn record(&self) -> Record {
-        Record::default().span(self.0.text)
+        Record::default().span(self.0.text).u16(self.0.place)
     }
 
     fn answer(&self, pools: &Pools) -> Answer {
         let input = self.0;
         let mut text = pools.bytes(input.text.start, TEXT_ROOM);
-        let listed = reference::listing(&input.code, passed(&mut text, input.text));
+        let listed = reference::listing(
+            &input.code,
+            input.place.into(),
+            passed(&mut text, input.text),
+        );
         Answer {
             status: listed.status,
             reason: None,
-            numbers: vec![listed.written],
+            numbers: vec![listed.written, listed.next, listed.more.into()],
             digest: Some(Digest::of(&text)),
         }
     }
@@ -140,11 +162,12 @@ impl ListInput {
         let steps = code.len() / 4 + 2;
         let budget = match maker.random.below(6) {
             0 | 1 => maker.random.below(steps) as u64,
-            2 | 3 => 1_024,
+            2 => OLD_MOST_STEPS,
+            3 => MOST_STEPS,
             4 => u64::MAX,
             _ => maker.random.number(),
         };
-        let size = TEXT_SIZE + maker.random.pick(&[0, 0, 1, TEXT_MOST - TEXT_SIZE]);
+        let piece = Piece::of(&code, &mut maker.random);
         ListInput {
             code,
             features,
@@ -152,7 +175,8 @@ impl ListInput {
             budget,
             file: maker.file(),
             map: maker.file(),
-            text: maker.span(size),
+            text: maker.span(piece.size),
+            place: piece.place as u16,
         }
     }
 }
@@ -248,21 +272,34 @@ fn wrong_features(maker: &mut Maker) -> ListInput {
     ListInput { features, ..input }
 }
 
+/// Every other listing has a wrong place too.
 fn wrong_sizes(maker: &mut Maker) -> ListInput {
-    let input = accepted(maker);
+    let mut input = accepted(maker);
+    if maker.random.flag() {
+        input = with_wrong_place(input, maker);
+    }
     with_wrong_sizes(input, maker)
 }
 
 fn with_wrong_sizes(input: ListInput, maker: &mut Maker) -> ListInput {
-    let below = maker.random.below(TEXT_SIZE);
-    let old = maker.random.pick(&[OLD_TEXT_SIZE - 1, OLD_TEXT_SIZE]);
-    let text = maker.random.pick(&[0, TEXT_SIZE - 1, old, below]);
+    let text = short_text(&mut maker.random);
     ListInput {
         file: maker.wrong_file(),
         map: maker.wrong_file(),
         text: maker.span(text),
         ..input
     }
+}
+
+/// Running and building take no place.
+fn wrong_place(maker: &mut Maker) -> ListInput {
+    let input = accepted(maker);
+    with_wrong_place(input, maker)
+}
+
+fn with_wrong_place(input: ListInput, maker: &mut Maker) -> ListInput {
+    let place = past_end(input.code.len(), &mut maker.random);
+    ListInput { place, ..input }
 }
 
 fn wrong_masks(maker: &mut Maker) -> ListInput {
@@ -282,15 +319,48 @@ fn of_length(length: usize, maker: &mut Maker) -> ListInput {
 }
 
 /// Every other list has as many instructions as there can be, and so the longest listing.
-fn at_limit(maker: &mut Maker) -> ListInput {
+fn full(length: usize, maker: &mut Maker) -> ListInput {
     if maker.random.flag() {
-        return of_length(CODE_LIMIT, maker);
+        return of_length(length, maker);
     }
     let random = &mut maker.random;
     // vunpcklps of xmm0 to xmm15, xmm0 to xmm15 and xmm0 to xmm7
     let mut step = || [0xC5, random.bits(5) << 3, 0x14, 0xC0 | random.bits(6)];
-    let code: Vec<_> = (0..CODE_LIMIT / 4).flat_map(|_| step()).collect();
+    let code: Vec<_> = (0..length / 4).flat_map(|_| step()).collect();
     ListInput::new(code, ALL, maker)
+}
+
+fn at_old_limit(maker: &mut Maker) -> ListInput {
+    full(OLD_CODE_LIMIT, maker)
+}
+
+/// One byte more than the old limit, or anything up to the new one.
+fn past_old_limit(maker: &mut Maker) -> ListInput {
+    let longest = maker.random.pick(&[1, CODE_LIMIT - OLD_CODE_LIMIT]);
+    let length = OLD_CODE_LIMIT + 1 + maker.random.below(longest);
+    of_length(length, maker)
+}
+
+/// A refused instruction behind at least so many bytes as the old limit.
+fn past_old_limit_refused(maker: &mut Maker) -> ListInput {
+    let length = OLD_CODE_LIMIT + maker.random.below(6_000);
+    let list = Mix::mappable(ALL).list_of_length(length, &mut maker.random);
+    let fault = maker.random.pick(&LATE_FAULTS);
+    let code = [list.code, maker.fault(fault)].concat();
+    ListInput::new(code, ALL, maker)
+}
+
+/// Runs come to the end, or to the step before it; most listings have more lines than fit.
+fn at_limit(maker: &mut Maker) -> ListInput {
+    let input = full(CODE_LIMIT, maker);
+    let budgets = [MOST_STEPS - 1, MOST_STEPS, u64::MAX];
+    let piece = Piece::of_long(&input.code, &mut maker.random);
+    ListInput {
+        budget: maker.random.pick(&budgets),
+        text: maker.span(piece.size),
+        place: piece.place as u16,
+        ..input
+    }
 }
 
 fn past_limit(maker: &mut Maker) -> ListInput {
@@ -302,4 +372,9 @@ fn past_limit(maker: &mut Maker) -> ListInput {
 fn past_limit_wrong_sizes(maker: &mut Maker) -> ListInput {
     let input = past_limit(maker);
     with_wrong_sizes(input, maker)
+}
+
+fn past_limit_wrong_place(maker: &mut Maker) -> ListInput {
+    let input = past_limit(maker);
+    with_wrong_place(input, maker)
 }

@@ -37,8 +37,8 @@ pub const KINDS: [Kind<Step>; 19] = [
     ("reserved fields, cut", 200, reserved_and_cut),
     ("several faults", 288, several_faults),
     ("15 bytes from a prefix", 300, behind_prefix),
-    ("any bytes", 100, any_bytes),
-    ("over 4,096 bytes", 12, past_limit),
+    ("any bytes", 109, any_bytes),
+    ("over 16,384 bytes", 3, past_limit),
 ];
 
 impl Input for Step {

@@ -2,11 +2,9 @@
 
 use crate::vectors;
 use inputs::limits::features::ALL;
-use inputs::limits::{OLD_TEXT_SIZE, TEXT_SIZE};
 use inputs::reserved::possible_pairs;
 use std::collections::BTreeMap;
-use vectors::lists::{ListInput, Listing};
-use vectors::section::{Input, Samples};
+use vectors::section::Samples;
 use vectors::{address_inputs, decode_inputs, list_inputs, step_inputs};
 
 /// Of each reason, and of each pair.
@@ -94,25 +92,4 @@ fn every_pair_of_wrong_fields_has_dozens_of_inputs() {
         "lists",
         all(&samples).map(|input| from_refused(&input.code)),
     );
-}
-
-/// The length of the text, the last field of the record.
-fn text_size(input: &ListInput) -> usize {
-    let record = Listing(input).record().0;
-    usize::from(u16::from_le_bytes([record[2], record[3]]))
-}
-
-#[test]
-fn texts_have_sizes_around_the_limit() {
-    let samples = list_inputs();
-    let mut sizes = BTreeMap::new();
-    for input in all(&samples) {
-        *sizes.entry(text_size(input)).or_insert(0) += 1;
-    }
-    let around = [OLD_TEXT_SIZE - 1, OLD_TEXT_SIZE, TEXT_SIZE - 1, TEXT_SIZE];
-    assert_eq!(around, [25_623, 25_624, 27_671, 27_672]);
-    for size in around {
-        let found = sizes.get(&size).map_or(0, |&count| count);
-        assert!(found >= LEAST_OF_EACH, "{found} texts of {size} bytes");
-    }
 }

@@ -104,8 +104,10 @@ fn rows_of(code: &[u8], most: usize) -> BTreeSet<(u32, u32)> {
     rows
 }
 
+/// Every kind has at least so many rows; one with fewer inputs has another row in each.
 fn expect_rows<I>(samples: &Samples<I>, code: fn(&I) -> &[u8], most: usize, least: usize) {
     for (kind, inputs) in samples.iter().filter(|(kind, _)| !DAMAGED.contains(kind)) {
+        let least = least.min(most.saturating_mul(inputs.len()));
         let rows = inputs.iter().flat_map(|input| rows_of(code(input), most));
         let found = rows.collect::<BTreeSet<_>>().len();
         assert!(found >= least, "{kind}: {found} rows");
@@ -133,10 +135,47 @@ fn every_kind_has_every_row() {
 fn lists_are_of_every_length() {
     let samples = list_inputs();
     let lengths: BTreeSet<_> = all(&samples).map(|input| input.code.len()).collect();
-    for length in [0, 4, 5, 6, 7, 4_096, 4_097] {
+    for length in [0, 4, 5, 6, 7, 4_096, 4_097, 16_384, 16_385] {
         assert!(lengths.contains(&length), "no list of {length} bytes");
     }
+    let between = lengths.range(4_098..16_384).count();
+    assert!(between >= 12, "{between} lengths between old and new limit");
     assert!(lengths.iter().all(|&length| length <= CODE_ROOM));
+}
+
+/// Status and steps of a run, from its line.
+fn status_and_steps(line: &str) -> Option<(u64, u64)> {
+    let mut words = line.split(' ');
+    let mut number = || u64::from_str_radix(words.next()?, 16).ok();
+    Some((number()?, number()?))
+}
+
+/// A kind of run: its name, how many there are at least, and whether status and steps are of it.
+type RunKind = (&'static str, usize, fn(u64, u64) -> bool);
+
+/// With more steps than a list could have before request 5, up to the most that it can have now.
+const LONG_RUNS: [RunKind; 4] = [
+    ("over 1,024 steps", 12, |_, steps| steps > 1_024),
+    ("over 1,024, then refused", 4, |status, steps| {
+        steps > 1_024 && status != 0
+    }),
+    ("4,095 steps", 2, |_, steps| steps == 4_095),
+    ("4,096 steps", 2, |_, steps| steps == 4_096),
+];
+
+#[test]
+fn long_lists_are_run() {
+    let mut sections = vectors().sections.iter();
+    let run = sections.find(|section| section.name == "run");
+    let lines = run.expect("a section").results.lines();
+    let ran: Vec<_> = lines.filter_map(status_and_steps).collect();
+    assert_eq!(ran.len(), INPUTS);
+    for (name, least, is_of) in LONG_RUNS {
+        let found = ran.iter().filter(|ran| is_of(ran.0, ran.1)).count();
+        println!("{name:28}{found:>6}");
+        assert!(found >= least, "{name}: {found} runs");
+    }
+    assert!(ran.iter().all(|ran| ran.1 <= 4_096));
 }
 
 fn all(samples: &Samples<ListInput>) -> impl Iterator<Item = &ListInput> {
