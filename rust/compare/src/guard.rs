@@ -46,6 +46,11 @@ impl<T: Element> Guarded<T> {
         &mut self.elements[GUARD..GUARD + content.len()]
     }
 
+    /// What the copy and all behind it up to the guard elements hold now.
+    pub fn content(&self) -> &[T] {
+        &self.elements[GUARD..self.elements.len() - GUARD]
+    }
+
     /// Whether the copy is `content` and the guard elements are as they were.
     pub fn is_unchanged(&self, content: &[T]) -> bool {
         self.difference(content).is_none()

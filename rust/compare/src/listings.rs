@@ -1,4 +1,4 @@
-//! Comparison of listings: the result, and every byte of every buffer.
+//! Comparison of listings, piece by piece: every field of the result, and every byte of every buffer.
 
 use crate::display;
 use crate::guard::Guarded;
@@ -6,7 +6,7 @@ use crate::instructions::Instructions;
 use crate::limits::features;
 use crate::tally::{Counts, Reasons};
 use std::fmt;
-use tarhuspo::limits::TEXT_SIZE;
+use tarhuspo::limits::TEXT_LEAST;
 use tarhuspo::Listed;
 
 /// The inputs of a listing.
@@ -15,29 +15,49 @@ pub struct Case {
     pub code: Vec<u8>,
     /// Bytes that follow the code in memory and are not passed.
     pub behind: Vec<u8>,
+    /// Where the piece starts.
+    pub place: usize,
     pub text_size: usize,
     /// The first byte of the text before; those behind it count up.
     pub old: u8,
 }
 
 impl Case {
-    /// Text of the least size.
+    /// From place 0, with text that is enough for every line.
     pub fn new(code: &[u8]) -> Case {
-        Case {
-            code: code.to_vec(),
+        let mut case = Case {
+            code: Vec::new(),
             behind: Vec::new(),
-            text_size: TEXT_SIZE,
+            place: 0,
+            text_size: 0,
             old: 0,
-        }
+        };
+        case.set_code(code.to_vec());
+        case
     }
+
+    /// Other code, and text that is enough for every line of it.
+    pub fn set_code(&mut self, code: Vec<u8>) {
+        self.text_size = enough(&code);
+        self.code = code;
+    }
+}
+
+/// Bytes of text that hold a list's headings and lines: 27 are allowed a line, and an instruction has
+/// at least 4 bytes, but for a refused one.
+pub fn enough(code: &[u8]) -> usize {
+    TEXT_LEAST.max(24 + 27 * (code.len() / 4 + 1))
 }
 
 impl fmt::Display for Case {
     fn fmt(&self, f: &mut fmt::Formatter) -> fmt::Result {
         writeln!(f, "{}", display::bytes("code", &self.code))?;
         writeln!(f, "{}", display::bytes("behind it", &self.behind))?;
-        let (size, old) = (self.text_size, self.old);
-        write!(f, "text of {size} bytes, counting up from {old:02X}")
+        let (place, size, old) = (self.place, self.text_size, self.old);
+        write!(
+            f,
+            "from place {place}, text of {size} bytes, counting up from {old:02X}"
+        )
     }
 }
 
@@ -51,10 +71,12 @@ pub struct Comparison {
     /// The text that the reference leaves.
     expected: Vec<u8>,
     pub counts: Counts,
-    /// Accepted listings by the status in their last line, 0 if there is none.
+    /// Accepted pieces by the status in their last line, 0 if there is none.
     pub last_lines: Counts,
     /// The reasons behind a 4 in the last line.
     pub reasons: Reasons,
+    /// Accepted pieces by their end.
+    pub ends: Ends,
     /// The instructions that have a line.
     pub instructions: Instructions,
 }
@@ -64,9 +86,9 @@ impl Comparison {
     ///
     /// # Panics
     ///
-    /// If the results or the texts differ, if a refusal counts or changed text, if the last line has
-    /// a reason with another status than 4, or if the library changed the code or bytes around a
-    /// buffer.
+    /// If the results or the texts differ, if a refusal has another number than its status or changed
+    /// text, if the last line has a reason with another status than 4, or if the library changed the
+    /// code or bytes around a buffer.
     pub fn check(&mut self, case: &Case) -> Listed {
         self.before.clear();
         let old = (0..case.text_size).map(|i| case.old.wrapping_add(i as u8));
@@ -74,22 +96,42 @@ impl Comparison {
         self.expected.clone_from(&self.before);
         let library = tarhuspo::listing(
             self.code.fill_joined(&case.code, &case.behind),
+            case.place,
             self.text.fill(&self.before),
         );
-        let reference::Listed { written, status } =
-            reference::listing(&case.code, &mut self.expected);
-        let reference = Listed { written, status };
+        let reference = self.list_reference(case);
         if let Some(difference) = self.difference(case, library, reference) {
             panic!("{difference}\n{case}");
         }
-        self.counts.add(status);
-        if status == 0 {
-            let (status, reason) = last_answer(self.written(library));
-            self.last_lines.add(status);
-            self.reasons.add(status, reason);
-            self.instructions.record_list(&case.code, features::ALL);
+        self.counts.add(library.status);
+        if library.status == 0 {
+            self.record(case, library);
         }
         library
+    }
+
+    /// Takes pieces from place 0 on until no lines remain, each of the size that `size` gives, and
+    /// joins them.
+    ///
+    /// # Panics
+    ///
+    /// As [`check`](Comparison::check), if a piece is refused, or if it does not move on.
+    pub fn joined(&mut self, case: &Case, mut size: impl FnMut() -> usize) -> String {
+        let mut piece = case.clone();
+        piece.place = 0;
+        let mut text = String::new();
+        loop {
+            piece.text_size = size();
+            let listed = self.check(&piece);
+            assert_eq!(listed.status, 0, "{piece}");
+            text += self.written(listed);
+            if !listed.more {
+                return text;
+            }
+            let next = listed.next as usize;
+            assert!(next > piece.place, "next is {next}\n{piece}");
+            piece.place = next;
+        }
     }
 
     /// The text that a listing has written, if it was the last one.
@@ -98,12 +140,28 @@ impl Comparison {
         std::str::from_utf8(text).unwrap_or("not UTF-8")
     }
 
+    fn list_reference(&mut self, case: &Case) -> Listed {
+        let reference::Listed {
+            written,
+            next,
+            status,
+            more,
+        } = reference::listing(&case.code, case.place, &mut self.expected);
+        Listed {
+            written,
+            next,
+            status,
+            more,
+        }
+    }
+
     fn difference(&self, case: &Case, library: Listed, reference: Listed) -> Option<String> {
         if library != reference {
             return Some(format!("library: {library:?}\nreference: {reference:?}"));
         }
         let refused = library.status != 0;
-        if refused && (library.written != 0 || !self.text.is_unchanged(&self.before)) {
+        let counted = library != refusal(library.status);
+        if refused && (counted || !self.text.is_unchanged(&self.before)) {
             return Some(format!("{library:?}, or the text is not as before"));
         }
         if let Some(found) = self.text.difference(&self.expected) {
@@ -113,15 +171,79 @@ impl Comparison {
         let found = self.code.joined_difference(&case.code, &case.behind)?;
         Some(format!("code: {found}"))
     }
+
+    /// Counts an accepted piece.
+    fn record(&mut self, case: &Case, listed: Listed) {
+        let headings = usize::from(case.place == 0);
+        let last = self.written(listed).lines().skip(headings).last();
+        let (status, reason) = last.map_or((0, 0), answer);
+        self.last_lines.add(status);
+        self.reasons.add(status, reason);
+        self.ends.add(case, listed, status);
+        let lines = case.place..listed.next as usize;
+        self.instructions
+            .record_list(&case.code[lines], features::ALL);
+    }
 }
 
-/// Status and reason at the end of the last line, or 0 if there are only headings.
-fn last_answer(text: &str) -> (u32, u32) {
-    let last = text.lines().skip(1).last();
-    let field = last.and_then(|line| line.rsplit('\t').next());
-    let (status, reason) = field.map_or(("0", "0"), |field| {
-        field.split_once(':').unwrap_or((field, "0"))
-    });
+/// A refusal: the status, and nothing in every other field.
+pub fn refusal(status: u32) -> Listed {
+    Listed {
+        written: 0,
+        next: 0,
+        status,
+        more: false,
+    }
+}
+
+/// Status and reason at the end of a line.
+fn answer(line: &str) -> (u32, u32) {
+    let field = line.rsplit('\t').next().unwrap_or(line);
+    let (status, reason) = field.split_once(':').unwrap_or((field, "0"));
     let number = |digits: &str| digits.parse().unwrap_or(u32::MAX);
     (number(status), number(reason))
+}
+
+/// How pieces can end.
+const ENDS: [&str; 4] = [
+    "lines remain",
+    "at the end of the list",
+    "behind a refused line",
+    "without a line",
+];
+
+/// How many pieces had each end, those of place 0 and the others.
+#[derive(Debug, Default, Clone, Copy)]
+pub struct Ends([[u64; 2]; 4]);
+
+impl Ends {
+    /// Counts an accepted piece, with the status in its last line.
+    fn add(&mut self, case: &Case, listed: Listed, status: u32) {
+        let end = match listed {
+            Listed { more: true, .. } => 0,
+            _ if status != 0 => 2,
+            _ if case.place == case.code.len() => 3,
+            _ => 1,
+        };
+        self.0[end][usize::from(case.place > 0)] += 1;
+    }
+
+    pub fn merge(&mut self, other: &Ends) {
+        for (counts, more) in self.0.iter_mut().zip(other.0) {
+            *counts = [counts[0] + more[0], counts[1] + more[1]];
+        }
+    }
+
+    /// Prints them as a table.
+    ///
+    /// # Panics
+    ///
+    /// If one never occurred.
+    pub fn finish(&self) {
+        println!("\n{:26}{:>9} {:>8}", "pieces", "place 0", "others");
+        for (name, [first, others]) in ENDS.iter().zip(self.0) {
+            println!("{name:26}{first:>9} {others:>8}");
+            assert!(first > 0 && others > 0, "no piece '{name}'");
+        }
+    }
 }

@@ -1,5 +1,8 @@
 //! The proved program `list`, run as a user would: bytes in, text out.
 
+use compare::limits::{CODE_LIMIT, OLD_CODE_LIMIT, TEXT_WHOLE};
+use compare::lists::Mix;
+use compare::random::Random;
 use std::io::Write;
 use std::path::{Path, PathBuf};
 use std::process::{Command, Output, Stdio};
@@ -9,7 +12,6 @@ const HEADINGS: &str = "at\tlen\tname\tbits\tanswer\n";
 const SHORTEST: [u8; 4] = [0xC5, 0xE8, 0x14, 0xCB];
 /// VPSHUFD zmm1, [rsp + disp32]{1to16}, imm8: the longest kind.
 const LONGEST: [u8; 12] = [0x62, 0xF1, 0x7D, 0x58, 0x70, 0x8C, 0x24, 1, 2, 3, 4, 9];
-const LIMIT: usize = 4_096;
 
 /// Proves and compiles the program. That is quick if nothing has changed since it was last proved.
 fn program() -> PathBuf {
@@ -35,7 +37,7 @@ fn run(program: &Path, input: &[u8]) -> Output {
     // All inputs here fit into a pipe, so that this does not wait for the program, which stops
     // reading where a list is too long.
     let written = pipe.write_all(input);
-    assert!(written.is_ok() || input.len() > LIMIT, "{written:?}");
+    assert!(written.is_ok() || input.len() > CODE_LIMIT, "{written:?}");
     drop(pipe);
     child.wait_with_output().expect("it ends")
 }
@@ -89,18 +91,48 @@ fn program_prints_listings() {
     check(program, &reserved, &text);
 
     check_long_lists(program);
+    check_any_lists(program);
 }
 
+/// Lists at the old limit and the new one, and a byte more. Past the new one nothing is printed.
 fn check_long_lists(program: &Path) {
-    let full = SHORTEST.repeat(LIMIT / SHORTEST.len());
-    assert_eq!(full.len(), LIMIT);
-    check(program, &full, &format!("{HEADINGS}{}", lines_of(1_024)));
-    let cut = [&full[..LIMIT - 4], &LONGEST[..4]].concat();
-    let text = format!("{HEADINGS}{}4092\t0\t-\t0\t2\n", lines_of(1_023));
-    check(program, &cut, &text);
+    assert_eq!((OLD_CODE_LIMIT, CODE_LIMIT), (4_096, 16_384));
+    let full = SHORTEST.repeat(CODE_LIMIT / SHORTEST.len());
+    let text = |count: usize, last: &str| format!("{HEADINGS}{}{last}", lines_of(count));
+    check(program, &full[..4_096], &text(1_024, ""));
+    check(program, &full[..4_097], &text(1_024, "4096\t0\t-\t0\t2\n"));
+    let whole = text(4_096, "");
+    assert!(whole.len() > 0x1_0000, "{} bytes", whole.len());
+    check(program, &full, &whole);
+    let cut = [&full[..16_380], &LONGEST[..4]].concat();
+    check(program, &cut, &text(4_095, "16380\t0\t-\t0\t2\n"));
+    let reserved = [&full[..16_376], &[0xC5, 0xE9, 0x70, 0xCA, 0x1B], &[0x90; 3]].concat();
+    check(program, &reserved, &text(4_094, "16376\t0\t-\t0\t4:4\n"));
 
-    for more in [1, 2, 4, LIMIT, 60_000] {
+    for more in [1, 2, 4, CODE_LIMIT, 40_000] {
         let long = [&full[..], &vec![0xC5; more]].concat();
         check(program, &long, "");
+    }
+}
+
+/// The text of a list, by the reference.
+fn whole(code: &[u8]) -> String {
+    let mut text = vec![0; TEXT_WHOLE];
+    let listed = reference::listing(code, 0, &mut text);
+    assert_eq!((listed.status, listed.more), (0, false));
+    text.truncate(listed.written as usize);
+    String::from_utf8(text).expect("ASCII")
+}
+
+/// Lists of every form, which end at some byte.
+fn check_any_lists(program: &Path) {
+    let mut random = Random::new(1);
+    let mix = Mix::of(|_| true);
+    for most in [100, 1_000, 5_000, 10_000, CODE_LIMIT] {
+        for _ in 0..4 {
+            let mut code = mix.list(most / 4, &mut random).code;
+            code.truncate(most - random.below(20));
+            check(program, &code, &whole(&code));
+        }
     }
 }

@@ -10,6 +10,7 @@ use compare::reserved::{possible_pairs, Field, Pair, Wrong};
 use compare::tally::{Counts, Reasons, Table};
 use compare::{addressing, building, decoding, listings, running, stepping};
 use std::collections::{BTreeMap, BTreeSet};
+use tarhuspo::limits::TEXT_LEAST;
 use tarhuspo::{Addressed, Built, Ran, Stepped};
 
 const LEAST: u64 = 200_000;
@@ -184,19 +185,32 @@ impl Comparisons {
         let mut case = listings::Case::new(&[&list.code, input.code].concat());
         case.behind = input.behind.to_vec();
         case.old = random.byte();
-        let listed = self.listings.check(&case);
         let place = list.code.len();
         let (status, reason) = end_of_list(input, input.answer);
-        let last = match status {
-            0 => "\n".to_string(),
-            4 => format!("\n{place}\t0\t-\t0\t4:{reason}\n"),
-            _ => format!("\n{place}\t0\t-\t0\t{status}\n"),
+        let line = match status {
+            0 => String::new(),
+            4 => format!("{place}\t0\t-\t0\t4:{reason}\n"),
+            _ => format!("{place}\t0\t-\t0\t{status}\n"),
         };
-        let text = self.listings.written(listed);
-        assert!(text.ends_with(&last), "{case}\n{text}");
         let lines = 1 + list.count() + usize::from(status != 0);
-        assert_eq!(text.lines().count(), lines, "{case}\n{text}");
+        self.check_piece(&case, lines, &line);
+        // From its place on, with the headings if that is 0.
+        case.place = place;
+        case.text_size = TEXT_LEAST;
+        let lines = usize::from(place == 0) + usize::from(status != 0);
+        self.check_piece(&case, lines, &line);
         self.counts.add(status);
+    }
+
+    /// A piece up to the refused instruction's line, or without one up to the end.
+    fn check_piece(&mut self, case: &listings::Case, lines: usize, last: &str) {
+        let listed = self.listings.check(case);
+        let text = self.listings.written(listed);
+        assert_eq!(text.lines().count(), lines, "{case}\n{text}");
+        assert!(text.ends_with(last), "{case}\n{text}");
+        let place = last.split('\t').next().and_then(|at| at.parse().ok());
+        let next = place.unwrap_or(case.code.len() as u64);
+        assert_eq!((listed.next, listed.more), (next, false), "{case}");
     }
 
     /// The reasons that each entry point gave.

@@ -3,6 +3,7 @@
 use compare::faults::{Fault, FEATURE_SETS, RUN_FAULTS};
 use compare::instructions::Instructions;
 use compare::limits::features::{ALL, SETS};
+use compare::limits::{OLD_CODE_LIMIT, OLD_MOST_STEPS};
 use compare::lists::{List, Mix};
 use compare::random::Random;
 use compare::running::{Case, Comparison};
@@ -14,13 +15,17 @@ use tarhuspo::Ran;
 const LEAST_LISTS: u64 = 50_000;
 const LEAST_RUNS: u64 = 200_000;
 
+/// vunpcklps xmm3, xmm2, xmm1: with 4 bytes, no instruction is shorter.
+const SHORTEST: [u8; 4] = [0xC5, 0xE8, 0x14, 0xD9];
+
 /// A kind of input: its name, and what compares all inputs of that kind.
 type Kind = (&'static str, fn(&mut Comparison));
 
-const KINDS: [Kind; 9] = [
+const KINDS: [Kind; 10] = [
     ("accepted, every budget", every_budget),
     ("bad step at each position", bad_steps),
     ("run in two parts", two_parts),
+    ("long run in two parts", long_parts),
     ("one step at a time", single_steps),
     ("wrong sizes", wrong_sizes),
     ("4,096 bytes and more", long_lists),
@@ -99,7 +104,7 @@ fn every_budget(comparison: &mut Comparison) {
         let count = list.count() as u64;
         let around = [count.saturating_sub(1), count, count + 1];
         let fixed = [0, 1, MOST_STEPS, u64::MAX];
-        let large = [1_025, 1 << 31, 1 << 32, 1 << 63, u64::MAX - 1];
+        let large = [MOST_STEPS + 1, 1 << 31, 1 << 32, 1 << 63, u64::MAX - 1];
         let others = [random.below(26) as u64, random.pick(&large)];
         for budget in [&fixed[..], &around, &others].concat() {
             case.budget = budget;
@@ -203,6 +208,33 @@ fn check_parts(comparison: &mut Comparison, case: &mut Case, n: u64, m: u64) {
     );
 }
 
+/// Budgets up to 4,096 each, on lists of 16,384 bytes, accepted and with a bad last step.
+fn long_parts(comparison: &mut Comparison) {
+    let mut random = Random::new(11);
+    let mut case = Case::new(&mut random);
+    let parts = [0, OLD_MOST_STEPS, 2_048, MOST_STEPS - 1, MOST_STEPS];
+    case.code = SHORTEST.repeat(MOST_STEPS as usize);
+    for n in parts {
+        for m in parts {
+            check_parts(comparison, &mut case, n, m);
+        }
+    }
+    let mix = Mix::runnable(ALL);
+    for (fault, _) in RUN_FAULTS {
+        let Some(bad) = fault.encode(ALL, &mut random) else {
+            continue;
+        };
+        let list = mix.list_of_length(CODE_LIMIT - bad.code.len(), &mut random);
+        case.refill(&mut random);
+        for code in [list.code.clone(), [list.code, bad.code].concat()] {
+            case.code = code;
+            let [n, m] = [random.pick(&parts), random.pick(&parts)];
+            check_parts(comparison, &mut case, n, m);
+            check_parts(comparison, &mut case, OLD_MOST_STEPS, MOST_STEPS);
+        }
+    }
+}
+
 /// A run does what as many calls of the step do, one after the other.
 fn single_steps(comparison: &mut Comparison) {
     for_lists(4, 1_500, 12, |list, case, _| {
@@ -250,18 +282,23 @@ fn check_sizes(comparison: &mut Comparison, case: &Case) {
     }
 }
 
+/// Lists at the old limit and the new one, and over it, with budgets around the old one and the new
+/// one.
 fn long_lists(comparison: &mut Comparison) {
     let mut random = Random::new(6);
-    let mix = Mix::runnable(ALL);
-    for _ in 0..40 {
-        let full = mix.list_of_length(CODE_LIMIT, &mut random);
-        let budgets = [0, full.count() as u64 - 1, MOST_STEPS, u64::MAX];
-        check_budgets(comparison, &full.code, 0, budgets, |budget| {
-            accepted(&full, budget)
-        });
+    for _ in 0..10 {
+        for length in [
+            OLD_CODE_LIMIT,
+            OLD_CODE_LIMIT + 1,
+            CODE_LIMIT - 1,
+            CODE_LIMIT,
+        ] {
+            let list = Mix::runnable(ALL).list_of_length(length, &mut random);
+            check_long(comparison, &list);
+        }
         for more in [1, 2, 3, 4, 900] {
-            let over = mix.list_of_length(CODE_LIMIT + more, &mut random);
-            check_budgets(comparison, &over.code, 0, budgets, |_| refused(8));
+            let over = Mix::runnable(ALL).list_of_length(CODE_LIMIT + more, &mut random);
+            check_too_long(comparison, &over.code);
         }
         for cut in 1..4 {
             check_cut(comparison, cut, &mut random);
@@ -269,15 +306,23 @@ fn long_lists(comparison: &mut Comparison) {
     }
     // As many steps as a list can have.
     let mut shortest = List::default();
-    (0..MOST_STEPS).for_each(|_| shortest.push(&[0xC5, 0xE8, 0x14, 0xD9]));
-    let budgets = [MOST_STEPS - 1, MOST_STEPS, MOST_STEPS + 1, 500];
-    check_budgets(comparison, &shortest.code, 0, budgets, |budget| {
-        accepted(&shortest, budget)
+    (0..MOST_STEPS).for_each(|_| shortest.push(&SHORTEST));
+    check_long(comparison, &shortest);
+    check_too_long(comparison, &random.bytes(100_000));
+}
+
+fn check_long(comparison: &mut Comparison, list: &List) {
+    let count = list.count() as u64;
+    let around = [OLD_MOST_STEPS, MOST_STEPS, count].map(|n| [n - 1, n, n + 1]);
+    let budgets = [around.as_flattened(), &[0, 500, u64::MAX]].concat();
+    check_budgets(comparison, &list.code, 0, &budgets, |budget| {
+        accepted(list, budget)
     });
-    let budgets = [0, 1, MOST_STEPS, u64::MAX];
-    check_budgets(comparison, &random.bytes(100_000), 0, budgets, |_| {
-        refused(8)
-    });
+}
+
+fn check_too_long(comparison: &mut Comparison, code: &[u8]) {
+    let budgets = [0, 1, OLD_MOST_STEPS, MOST_STEPS, u64::MAX];
+    check_budgets(comparison, code, 0, &budgets, |_| refused(8));
 }
 
 /// A list at the limit that ends inside its last step, which has 4 or 5 bytes.
@@ -288,7 +333,7 @@ fn check_cut(comparison: &mut Comparison, cut: usize, random: &mut Random) {
         status: 2,
         ..accepted(&list, list.count() as u64 - 1)
     };
-    check_budgets(comparison, &list.code, cut, budgets, |_| expected);
+    check_budgets(comparison, &list.code, cut, &budgets, |_| expected);
 }
 
 /// Compares runs of `code` without its last `cut` bytes, which follow in memory.
@@ -296,13 +341,13 @@ fn check_budgets(
     comparison: &mut Comparison,
     code: &[u8],
     cut: usize,
-    budgets: [u64; 4],
+    budgets: &[u64],
     expected: impl Fn(u64) -> Ran,
 ) {
     let mut case = Case::new(&mut Random::new(7));
     let (code, behind) = code.split_at(code.len() - cut);
     (case.code, case.behind) = (code.to_vec(), behind.to_vec());
-    for budget in budgets {
+    for &budget in budgets {
         case.budget = budget;
         check_expected(comparison, &case, expected(budget));
     }

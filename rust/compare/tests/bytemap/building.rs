@@ -5,6 +5,7 @@ use compare::building::{Case, Comparison};
 use compare::faults::{Fault, BUILD_FAULTS, FEATURE_SETS};
 use compare::form::Form;
 use compare::limits::features::{ALL, SETS};
+use compare::limits::OLD_CODE_LIMIT;
 use compare::lists::{List, Mix};
 use compare::random::Random;
 use tarhuspo::limits::{CODE_LIMIT, MAP_SIZE, MASK_COUNT, MOST_STEPS};
@@ -164,14 +165,17 @@ fn check_sizes(comparison: &mut Comparison, case: &Case) {
     }
 }
 
+/// Lists at the old limit and the new one, and over it.
 fn long_lists(comparison: &mut Comparison) {
     let mut random = Random::new(5);
     let mix = Mix::mappable(ALL);
     let mut case = Case::new(&mut random);
-    for _ in 0..40 {
-        case.refill(&mut random);
-        case.code = mix.list_of_length(CODE_LIMIT, &mut random).code;
-        check_expected(comparison, &case, CODE_LIMIT, 0);
+    for _ in 0..20 {
+        for length in [OLD_CODE_LIMIT, OLD_CODE_LIMIT + 1, CODE_LIMIT] {
+            case.refill(&mut random);
+            case.code = mix.list_of_length(length, &mut random).code;
+            check_expected(comparison, &case, length, 0);
+        }
         for more in [1, 2, 3, 4, 900] {
             case.code = mix.list_of_length(CODE_LIMIT + more, &mut random).code;
             check_expected(comparison, &case, 0, 8);

@@ -3,13 +3,14 @@
 use crate::maps::{old_map, valid_map};
 use crate::Kind;
 use compare::limits::features::ALL;
-use compare::lists::Mix;
+use compare::lists::{List, Mix};
 use compare::random::Random;
 use compare::{building, mapping, running};
 use tarhuspo::limits::{CODE_LIMIT, FILE_SIZE, MAP_SIZE, MAP_ZERO, MOST_STEPS};
 
-pub const KINDS: [Kind<Laws>; 6] = [
+pub const KINDS: [Kind<Laws>; 7] = [
     ("applying is running", applying_is_running),
+    ("applying, at the limit", applying_at_the_limit),
     ("joins are compositions", joins),
     ("joins at the limit", joins_at_the_limit),
     ("composing is associative", triples),
@@ -60,19 +61,35 @@ impl Laws {
 fn applying_is_running(laws: &mut Laws) {
     let mut random = Random::new(21);
     let mix = Mix::mappable(ALL);
-    let mut case = running::Case::new(&mut random);
     for _ in 0..8_000 {
-        let count = random.below(40);
-        case.code = mix.list(count, &mut random).code;
-        case.refill(&mut random);
-        case.budget = random.pick(&[count as u64, MOST_STEPS, u64::MAX]);
-        let map = laws.build(&case.code, &case.masks, &mut random);
-        for _ in 0..2 {
-            random.fill(&mut case.file);
-            assert!(laws.apply(&map, &case.file) == laws.run(&case), "{case}");
-        }
-        laws.cases += 1;
+        let list = mix.list(random.below(40), &mut random);
+        check_applying(laws, &list, &mut random);
     }
+}
+
+/// Lists of the most bytes, and one of the most steps.
+fn applying_at_the_limit(laws: &mut Laws) {
+    let mut random = Random::new(27);
+    let mix = Mix::mappable(ALL);
+    for _ in 0..20 {
+        let list = mix.list_of_length(CODE_LIMIT, &mut random);
+        check_applying(laws, &list, &mut random);
+    }
+    let mut shortest = List::default();
+    (0..MOST_STEPS).for_each(|_| shortest.push(&[0xC5, 0xE8, 0x14, 0xD9]));
+    check_applying(laws, &shortest, &mut random);
+}
+
+fn check_applying(laws: &mut Laws, list: &List, random: &mut Random) {
+    let mut case = running::Case::new(random);
+    case.code.clone_from(&list.code);
+    case.budget = random.pick(&[list.count() as u64, MOST_STEPS, u64::MAX]);
+    let map = laws.build(&case.code, &case.masks, random);
+    for _ in 0..2 {
+        random.fill(&mut case.file);
+        assert!(laws.apply(&map, &case.file) == laws.run(&case), "{case}");
+    }
+    laws.cases += 1;
 }
 
 /// Accepts two lists and their join, and compares the join's map with the composition.
@@ -101,7 +118,7 @@ fn joins(laws: &mut Laws) {
 fn joins_at_the_limit(laws: &mut Laws) {
     let mut random = Random::new(23);
     let mix = Mix::mappable(ALL);
-    for _ in 0..40 {
+    for _ in 0..20 {
         let length = 28 + random.below(CODE_LIMIT - 56);
         let first = mix.list_of_length(length, &mut random).code;
         let second = mix.list_of_length(CODE_LIMIT - length, &mut random).code;
