@@ -24,6 +24,16 @@ impl Input {
             Input::Apply(_) | Input::Compose(_) | Input::Listing(_) => None,
         }
     }
+
+    /// The list that it has, if its entry point takes one.
+    pub fn list(&self) -> Option<&[u8]> {
+        match self {
+            Input::Run(input) => Some(&input.code),
+            Input::Build(input) => Some(&input.code),
+            Input::Listing(input) => Some(&input.code),
+            Input::Decode(_) | Input::Step(_) | Input::Apply(_) | Input::Compose(_) => None,
+        }
+    }
 }
 
 /// Decoding writes to no buffer.

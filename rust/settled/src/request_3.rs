@@ -1,48 +1,8 @@
-//! What request 3 changes: a listing asks for more text, and answer 4 comes with a reason.
+//! What request 3 adds to answer 4: which field of the instruction is wrong.
 //!
 //! The frozen answers have no reason, so that status, numbers and buffers of decoding, step, run and
-//! build stay as they were. Every frozen listing has less text than is asked for now. What a listing
-//! writes into a larger text, and the reasons of the frozen inputs, are held to [`lines`] and
-//! [`reason`] by tests of their own.
-
-use crate::answer::Answer;
-use crate::digest::Digest;
-use crate::input::Listing;
-use crate::request_1::Request1;
-
-/// Least bytes of a listing's text, before the request and after it.
-pub const OLD_TEXT_SIZE: usize = 25_624;
-pub const TEXT_SIZE: usize = 27_672;
-
-/// Whether the text was long enough before the request, and is not any more.
-pub fn is_too_short_now(input: &Listing) -> bool {
-    (OLD_TEXT_SIZE..TEXT_SIZE).contains(&input.text.size)
-}
-
-/// Answer 1 of a listing: nothing is written, whatever the code is.
-pub fn refused(input: &Listing) -> Answer {
-    Answer {
-        status: 1,
-        numbers: vec![0],
-        digest: Digest::of(&input.text.whole),
-    }
-}
-
-/// The text of a listing: that of request 1, with a colon and the reason behind a 4 in its last line.
-///
-/// # Panics
-///
-/// If there is a 4, and no field of that instruction is wrong.
-pub fn lines(code: &[u8]) -> String {
-    let text = Request1::After.lines(code);
-    let Some(before) = text.strip_suffix("\t0\t-\t0\t4\n") else {
-        return text;
-    };
-    let place = before.rsplit('\n').next().and_then(|at| at.parse().ok());
-    let place: usize = place.expect("a line starts with its place");
-    let reason = reason(&code[place..]).expect("with 4 a field is wrong");
-    format!("{before}\t0\t-\t0\t4:{reason}\n")
-}
+//! build stay as they were. The text of a listing has it, behind a 4. The reasons of the frozen inputs
+//! are held to [`reason`] by tests of their own.
 
 /// The number of the first wrong field of an instruction, from the request's words and document 01's;
 /// none if no field is wrong. This is for instructions that answer 4. Whether one does is not found

@@ -2,8 +2,7 @@
 
 use crate::answer::Answer;
 use crate::input::Input;
-use crate::request_1::Request1;
-use crate::request_3;
+use crate::landed::Landed;
 
 /// One reason of a change request for another answer.
 pub struct Rule {
@@ -44,17 +43,35 @@ pub const RULES: &[Rule] = &[
     Rule {
         request: 1,
         name: "features up to 63 are not refused",
-        explains: |input, old, new| has_feature_5(input) && is_request_1(input, old, new),
+        explains: |input, old, new| {
+            has_feature_5(input) && is_changed_by(Landed::Request1, input, old, new)
+        },
     },
     Rule {
         request: 1,
         name: "bytes that answered 3 follow the new rows",
-        explains: |input, old, new| !has_feature_5(input) && is_request_1(input, old, new),
+        explains: |input, old, new| {
+            !has_feature_5(input) && is_changed_by(Landed::Request1, input, old, new)
+        },
     },
     Rule {
         request: 3,
-        name: "text of 25,624 to 27,671 bytes is refused",
-        explains: is_request_3,
+        name: "a listing has the reason behind a 4",
+        explains: |input, old, new| is_changed_by(Landed::Request3, input, old, new),
+    },
+    Rule {
+        request: 5,
+        name: "lists of 4,097 to 16,384 bytes are run, built and listed",
+        explains: |input, old, new| {
+            is_long(input) && is_changed_by(Landed::Request5, input, old, new)
+        },
+    },
+    Rule {
+        request: 5,
+        name: "text of 64 to 25,623 bytes gets as many lines as fit",
+        explains: |input, old, new| {
+            !is_long(input) && is_changed_by(Landed::Request5, input, old, new)
+        },
     },
 ];
 
@@ -64,22 +81,18 @@ fn has_feature_5(input: &Input) -> bool {
     matches!(input.features(), Some(32..=63))
 }
 
-/// Whether the two answers are those from before the request and from after it, in every part. Not
-/// for texts that request 3 refuses: there its rule speaks for both.
-fn is_request_1(input: &Input, old: &Answer, new: &Answer) -> bool {
-    if matches!(input, Input::Listing(listing) if request_3::is_too_short_now(listing)) {
-        return false;
-    }
-    let [before, after] = [Request1::Before, Request1::After].map(|request| request.answer(input));
-    before.as_ref() == Some(old) && after.as_ref() == Some(new)
+/// A list that was too long before request 5. With others, the size of a listing's text alone can
+/// change an answer then.
+fn is_long(input: &Input) -> bool {
+    input.list().is_some_and(|code| code.len() > 4_096)
 }
 
-/// Whether a listing's text has become too short, the old answer is the base's, and the new one is 1
-/// with no byte written. Whether request 1 would have changed the text does not matter then.
-fn is_request_3(input: &Input, old: &Answer, new: &Answer) -> bool {
-    let Input::Listing(listing) = input else {
-        return false;
-    };
-    let is_base = Request1::Before.answer(input).as_ref() == Some(old);
-    request_3::is_too_short_now(listing) && is_base && *new == request_3::refused(listing)
+/// Whether the old answer is the base's, and the new one is the right one from this request on, in
+/// every part, and was not before it.
+fn is_changed_by(request: Landed, input: &Input, old: &Answer, new: &Answer) -> bool {
+    let gives = |landed: Landed, answer: &Answer| landed.answer(input).as_ref() == Some(answer);
+    let (before, since) = Landed::ALL.split_at(request as usize);
+    since.iter().all(|&landed| gives(landed, new))
+        && before.last().is_some_and(|&landed| !gives(landed, new))
+        && gives(Landed::Base, old)
 }

@@ -66,10 +66,25 @@ pub fn refused(input: &Input) -> Option<Refused> {
     })
 }
 
-/// Lists into `text`, and gives status and bytes written.
-pub fn listed(code: &[u8], text: &mut [u8]) -> (u32, u64) {
-    let listed = tarhuspo::listing(code, text);
-    (listed.status, listed.written)
+/// What request 5 makes of a listing: a piece, with the place where the next one starts.
+#[derive(Debug, Clone, Copy, PartialEq, Eq)]
+pub struct Listed {
+    pub status: u32,
+    pub written: u64,
+    pub next: u64,
+    /// Whether lines remain.
+    pub more: bool,
+}
+
+/// Lists into `text`, from a place of the code on.
+pub fn listed(code: &[u8], place: usize, text: &mut [u8]) -> Listed {
+    let listed = tarhuspo::listing(code, place, text);
+    Listed {
+        status: listed.status,
+        written: listed.written,
+        next: listed.next,
+        more: listed.more,
+    }
 }
 
 /// Decodes one instruction.
@@ -178,11 +193,12 @@ fn compose(input: &Compose) -> Answer {
     }
 }
 
+/// From place 0, since the base's listings have no place.
 fn listing(input: &Listing) -> Answer {
-    let ((status, written), digest) = input.text.call(|text| listed(&input.code, text));
+    let (listed, digest) = input.text.call(|text| listed(&input.code, 0, text));
     Answer {
-        status,
-        numbers: vec![written],
+        status: listed.status,
+        numbers: vec![listed.written],
         digest,
     }
 }

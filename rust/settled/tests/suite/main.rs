@@ -1,8 +1,11 @@
 //! Today's library held to the base's answers, and tests that this can fail.
 
 mod frozen;
+mod landed;
 mod reading;
 mod request_1;
 mod request_3;
+mod request_5;
 mod rules;
 mod settled;
+mod tools;

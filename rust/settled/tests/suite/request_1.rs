@@ -1,42 +1,13 @@
 //! Request 1 by itself: its worked cases, and the answers that its rules take and do not take.
 
+use crate::tools::{expect_rule, listing, rule};
 use settled::answer::Answer;
-use settled::base::Base;
 use settled::decoded::Decoded;
 use settled::digest::Digest;
-use settled::entry_point::EntryPoint;
-use settled::frozen::folder;
-use settled::input::{Apply, Build, Decode, Input, Listing, Run, Step};
+use settled::input::{Apply, Build, Decode, Input, Run, Step};
+use settled::landed::Landed;
 use settled::lane_permutes::{self, Instruction};
-use settled::request_1::Request1;
 use settled::room::{old_map, Room};
-use settled::rules::RULES;
-use settled::today;
-
-/// Without the request, going through lists as its rules do gives what the base gave. Where the
-/// request makes that another answer, today's is not the base's: none has been forgotten.
-#[test]
-fn answers_are_the_bases_before_the_request_and_others_after_it() {
-    let base = Base::read(&folder()).expect("the frozen files can be read");
-    for entry_point in EntryPoint::ALL {
-        let answers = base.answers(entry_point).iter();
-        let (mut compared, mut changed) = (0, 0);
-        for (number, (input, old)) in base.inputs(entry_point).zip(answers).enumerate() {
-            let Some(before) = Request1::Before.answer(&input) else {
-                continue;
-            };
-            let place = format!("{}, record {number} from 0\n{input}", entry_point.name());
-            assert_eq!(before, *old, "{place}");
-            compared += 1;
-            if Request1::After.answer(&input) != Some(before) {
-                assert_ne!(today::answer(&input), *old, "{place}");
-                changed += 1;
-            }
-        }
-        let name = entry_point.name();
-        println!("{name}: {compared} compared, of which request 1 changes {changed}");
-    }
-}
 
 fn decoded(code: &[u8], features: u32) -> Result<Decoded, u32> {
     let found = lane_permutes::decode(code, features).expect("one of the rows");
@@ -301,7 +272,7 @@ fn mask_bits_are_for_elements() {
 fn answers(list: &[u8]) -> [(u32, Vec<u64>); 3] {
     let inputs = inputs(63, &[], list);
     [2, 3, 4].map(|at| {
-        let answer = Request1::After.answer(&inputs[at]).expect("it has code");
+        let answer = Landed::Request1.answer(&inputs[at]).expect("it has code");
         (answer.status, answer.numbers)
     })
 }
@@ -363,44 +334,9 @@ fn inputs(features: u32, code: &[u8], list: &[u8]) -> Vec<Input> {
             masks: masks(),
             code: list(),
         }),
-        Input::Listing(Listing {
-            // As much as request 3 asks for: its rule alone is for less.
-            text: Room::new(vec![7; 28_160], 27_672),
-            code: list(),
-        }),
+        // As much text as the base asks for: with less, request 5's rule speaks.
+        listing(25_624, &list()),
     ]
-}
-
-/// The number of the rule that takes this answer for the one after the request.
-fn rule(input: &Input, new: &Answer) -> Option<usize> {
-    let old = Request1::Before.answer(input).expect("an input with code");
-    RULES
-        .iter()
-        .position(|rule| (rule.explains)(input, &old, new))
-}
-
-/// The right answer has a rule, and one that is wrong in any part has none.
-fn expect_rule(input: &Input, number: usize) {
-    let right = Request1::After.answer(input).expect("an input with code");
-    assert_eq!(rule(input, &right), Some(number), "{input}");
-    let changes: [fn(&mut Answer); 3] = [
-        |answer| answer.status ^= 1,
-        |answer| answer.numbers[0] += 1,
-        |answer| answer.digest = Digest(answer.digest.0 ^ 1),
-    ];
-    for change in changes {
-        let mut wrong = right.clone();
-        change(&mut wrong);
-        assert_eq!(rule(input, &wrong), None, "{input}\n{wrong}");
-    }
-    // The old answer has to be the base's, too.
-    let old = &Answer {
-        status: 9,
-        ..right.clone()
-    };
-    assert!(RULES
-        .iter()
-        .all(|rule| !(rule.explains)(input, old, &right)));
 }
 
 #[test]
@@ -432,7 +368,7 @@ fn rules_take_nothing_else() {
     others.extend(inputs(31, &OLD, &OLD));
     others.extend(inputs(64, &UNPACK, &UNPACK).into_iter().take(4));
     for input in &others {
-        let old = Request1::Before.answer(input).unwrap_or(Answer {
+        let old = Landed::Base.answer(input).unwrap_or(Answer {
             status: 0,
             numbers: vec![],
             digest: Digest(0),
@@ -442,8 +378,7 @@ fn rules_take_nothing_else() {
                 status,
                 ..old.clone()
             };
-            let is_taken = RULES.iter().any(|rule| (rule.explains)(input, &old, &new));
-            assert!(!is_taken, "{input}\n{new}");
+            assert_eq!(rule(input, &old, &new), None, "{input}\n{new}");
         }
     }
 }

@@ -1,94 +1,50 @@
-//! Request 3 by itself: every frozen listing is refused now, its text is the old one with reasons,
-//! and every frozen 4 has the right reason.
+//! Request 3 by itself: texts of the frozen listings are the old ones with reasons, every frozen 4 has
+//! the right reason, and the answers that its rule takes and does not take.
 
-use settled::answer::Answer;
-use settled::base::{Base, INPUTS};
-use settled::digest::Digest;
+use crate::tools::{answers, base, expect_rule, listing, listings, rule};
+use settled::base::INPUTS;
 use settled::entry_point::EntryPoint;
-use settled::frozen::folder;
 use settled::input::{Decode, Input, Listing};
-use settled::request_1::Request1;
-use settled::request_3::{is_too_short_now, lines, reason, refused, OLD_TEXT_SIZE, TEXT_SIZE};
-use settled::room::Room;
-use settled::rules::RULES;
+use settled::landed::Landed;
+use settled::request_3::reason;
 use settled::today;
 
-fn base() -> Base {
-    Base::read(&folder()).expect("the frozen files can be read")
-}
-
-fn listings(base: &Base) -> impl Iterator<Item = Listing> + '_ {
-    base.inputs(EntryPoint::Listing).map(|input| match input {
-        Input::Listing(listing) => listing,
-        _ => panic!("no listing:\n{input}"),
-    })
-}
-
-/// None is left out: a frozen text is too short now, or was too short before.
-#[test]
-fn every_frozen_listing_is_refused() {
-    let base = base();
-    let (mut newly, mut always) = (0, 0);
-    for (listing, old) in listings(&base).zip(base.answers(EntryPoint::Listing)) {
-        assert!(listing.text.size < TEXT_SIZE);
-        let expected = refused(&listing);
-        if is_too_short_now(&listing) {
-            assert_ne!(*old, expected);
-            newly += 1;
-        } else {
-            assert_eq!(*old, expected);
-            always += 1;
-        }
-        let input = Input::Listing(listing);
-        assert_eq!(today::answer(&input), expected, "{input}");
-    }
-    assert_eq!(newly + always, INPUTS);
-    println!("listings: {newly} are refused for less than 27,672 bytes, {always} always were");
-}
-
-/// Lists into a text of this size, and gives what is written. What lies behind it has to stay.
-fn listed(code: &[u8], size: usize) -> Result<String, u32> {
-    let mut text = vec![0xEE; size];
-    let (status, written) = today::listed(code, &mut text);
-    let (written, behind) = text.split_at(written as usize);
+/// Lists into text that is large enough for all lines, and gives it. What lies behind it has to stay.
+fn listed(code: &[u8]) -> String {
+    let lines = 1 + code.len() / 4;
+    let mut text = vec![0xEE; 64 + 27 * lines];
+    let listed = today::listed(code, 0, &mut text);
+    assert_eq!((listed.status, listed.more), (0, false), "{code:02X?}");
+    let (written, behind) = text.split_at(listed.written as usize);
     assert!(behind.iter().all(|&byte| byte == 0xEE), "{code:02X?}");
-    match status {
-        0 => Ok(String::from_utf8(written.to_vec()).expect("ASCII")),
-        _ => Err(status),
-    }
+    String::from_utf8(written.to_vec()).expect("ASCII")
 }
 
 /// The code of every frozen listing, with text enough. What is expected is the text of request 1 with
 /// a digit behind a 4, and the digit is worked out here, for all rows. The rest of each line comes,
-/// for the base's rows, from today's decoder. That is still checked: the text without the request is
-/// held to the frozen digest, for every listing, by the first test of `request_1.rs`.
+/// for the base's rows, from today's decoder. That is still checked: the base's text is held to the
+/// frozen digest, for every listing with enough text, by the first test of `landed.rs`.
 #[test]
 fn texts_are_the_old_ones_with_reasons() {
     let base = base();
-    let (mut same, mut new_rows, mut over) = (0, 0, 0);
+    let (mut same, mut new_rows) = (0, 0);
     let mut reasons = [0; 6];
-    for (number, Listing { code, .. }) in listings(&base).enumerate() {
-        let found = listed(&code, TEXT_SIZE + number % 3);
-        if code.len() > 4_096 {
-            assert_eq!(found, Err(8), "{code:02X?}");
-            over += 1;
-            continue;
-        }
-        let text = lines(&code);
-        assert_eq!(found.as_ref(), Ok(&text), "{code:02X?}");
+    for Listing { code, .. } in listings(&base) {
+        let text = Landed::Request3.lines(&code);
+        assert_eq!(listed(&code), text, "{code:02X?}");
         if let Some(digit) = reason_in(&text) {
             reasons[digit - 1] += 1;
         }
-        match without_reason(&text) == Request1::Before.lines(&code) {
+        match without_reason(&text) == Landed::Base.lines(&code) {
             true => same += 1,
             false => new_rows += 1,
         }
     }
-    assert_eq!(same + new_rows + over, INPUTS);
+    assert_eq!(same + new_rows, INPUTS);
     assert!(reasons.iter().all(|&count| count > 0), "{reasons:?}");
     println!(
-        "texts: {same} are the base's but for the reason, {new_rows} have new rows, {over} lists \
-         are too long; reasons 1 to 6: {reasons:?}"
+        "texts: {same} are the base's but for the reason, {new_rows} have new rows; \
+         reasons 1 to 6: {reasons:?}"
     );
 }
 
@@ -184,75 +140,37 @@ const LIST: [u8; 11] = [
 #[test]
 fn text_of_a_written_out_list() {
     let text = "at\tlen\tname\tbits\tanswer\n0\t5\tVPSHUFD\t128\t0\n5\t0\t-\t0\t4:3\n";
-    assert_eq!(lines(&LIST), text);
-    assert_eq!(listed(&LIST, TEXT_SIZE), Ok(text.to_string()));
+    assert_eq!(Landed::Request3.lines(&LIST), text);
+    assert_eq!(listed(&LIST), text);
     let text = "at\tlen\tname\tbits\tanswer\n0\t5\tVPSHUFD\t128\t0\n5\t0\t-\t0\t2\n";
-    assert_eq!(lines(&LIST[..10]), text);
-    for size in [0, OLD_TEXT_SIZE, TEXT_SIZE - 1] {
-        assert_eq!(listed(&LIST, size), Err(1));
-    }
+    assert_eq!(Landed::Request3.lines(&LIST[..10]), text);
+    assert_eq!(listed(&LIST[..10]), text);
 }
 
-fn listing(size: u16, code: &[u8]) -> Input {
-    Input::Listing(Listing {
-        text: Room::new(vec![7; 28_160], size),
-        code: code.to_vec(),
-    })
-}
-
-/// The number of the rule that explains this difference.
-fn rule(input: &Input, old: &Answer, new: &Answer) -> Option<usize> {
-    RULES
-        .iter()
-        .position(|rule| (rule.explains)(input, old, new))
-}
-
-/// Answer 1 with nothing written, where the text was long enough before.
+/// A list that ends with a 4, of the base's rows and of a new one.
 #[test]
 fn rule_takes_the_right_answer_alone() {
-    for code in [&LIST[..], &LIST[..5], &[], &[0; 4_097]] {
-        for size in [25_624, 26_000, 27_671] {
+    let wrong_vvvv = [0xC5, 0xE9, 0x70, 0xCA, 0x1B];
+    for code in [&LIST[..], &wrong_vvvv] {
+        for size in [25_624, 25_625, 26_096] {
             let input = listing(size, code);
-            let old = Request1::Before.answer(&input).expect("it has code");
-            let right = Answer {
-                status: 1,
-                numbers: vec![0],
-                digest: Digest::of(&[7_u8; 28_160]),
-            };
-            assert_eq!(rule(&input, &old, &right), Some(2), "{input}");
-            // What request 1 would give is not right any more, nor is a part of the refusal.
-            let after = Request1::After.answer(&input).expect("it has code");
-            let mut wrong = [after, right.clone(), right.clone(), right.clone()];
-            wrong[1].status = 8;
-            wrong[2].numbers = vec![1];
-            wrong[3].digest = Digest(right.digest.0 ^ 1);
-            for new in wrong.iter().filter(|new| **new != old) {
-                assert_eq!(rule(&input, &old, new), None, "{input}\n{new}");
-            }
-            // The old answer has to be the base's, too.
-            assert_eq!(rule(&input, &Answer { status: 9, ..old }, &right), None);
+            expect_rule(&input, 2);
+            // Without the reason it is not right.
+            let [old, _] = answers(&input);
+            let before = Landed::Request1.answer(&input).expect("it has code");
+            assert_eq!(rule(&input, &old, &before), None, "{input}");
         }
     }
 }
 
 #[test]
 fn rule_takes_no_other_input() {
-    let refusal = |digest| Answer {
-        status: 1,
-        numbers: vec![0],
-        digest,
-    };
-    // A text that was too short before, or is long enough still.
-    for size in [25_623, 27_672] {
-        let input = listing(size, &LIST);
-        let old = Request1::Before.answer(&input).expect("it has code");
-        let new = refusal(Digest::of(&[7_u8; 28_160]));
-        let is_taken = old != new && rule(&input, &old, &new).is_some();
-        assert!(!is_taken, "{input}");
+    let code = LIST.to_vec();
+    // No 4, and a text that is too short at the base.
+    let [accepted, short] = [listing(25_624, &LIST[..5]), listing(25_623, &LIST)];
+    let decode = Input::Decode(Decode { features: 31, code });
+    for input in [accepted, short, decode] {
+        let [old, right] = answers(&input);
+        assert_ne!(rule(&input, &old, &right), Some(2), "{input}");
     }
-    let (features, code) = (31, LIST.to_vec());
-    let input = Input::Decode(Decode { features, code });
-    let old = Request1::Before.answer(&input).expect("it has code");
-    let new = refusal(old.digest);
-    assert_eq!(rule(&input, &old, &new), None);
 }

@@ -1,26 +1,33 @@
-//! What an input has to answer before request 1, and after it.
+//! What an input has to answer: at the base, and with the requests that have landed since.
 //!
-//! Bytes of the six new rows answered 3, and now do what [`lane_permutes`] says. Features over 31
-//! answered 1, and up to 63 no longer do. All other bytes are as before: no row of the base needs
-//! feature bit 5, so they are given to today's library with the features below it. The stored
+//! Request 1: bytes of the six new rows answered 3, and now do what [`lane_permutes`] says. Features
+//! over 31 answered 1, and up to 63 no longer do. All other bytes are as before: no row of the base
+//! needs feature bit 5, so they are given to today's library with the features below it. The stored
 //! inputs with such bytes and such features alone, which are most, hold the library to these answers.
 //!
-//! Lists are gone through here, an instruction at a time, as document 01 says it. Without the
-//! request that gives the base's answers, which a test sees on every stored input.
+//! Request 3: a listing has the reason behind a 4 ([`request_3`]). It asked for a text of 27,672
+//! bytes, too. Request 5 has taken that back, so that no answer shows it any more, and it is not
+//! here.
+//!
+//! Request 5: a list may have 16,384 bytes, and a text of 64 bytes gets as many whole lines as fit.
+//! The frozen listings have no place, and are taken from place 0.
+//!
+//! Lists are gone through here, an instruction at a time, as document 01 says it: the library is
+//! asked about single instructions, which no limit is for. At the base that gives the base's answers,
+//! and with all requests today's, which a test sees on every stored input.
 
 use crate::answer::Answer;
 use crate::decoded::Decoded;
 use crate::digest::Digest;
 use crate::input::{Build, Decode, Input, Listing, Run, Step};
 use crate::lane_permutes::{self, Instruction};
+use crate::request_3;
 use crate::today;
 
 const FILE_SIZE: usize = 2_048;
 const MASK_COUNT: usize = 8;
 const MAP_SIZE: usize = 2_048;
 const MAP_ZERO: u16 = 2_048;
-const CODE_LIMIT: usize = 4_096;
-const TEXT_SIZE: usize = 25_624;
 
 /// The features that the base has.
 const BASE_FEATURES: u32 = 31;
@@ -39,11 +46,13 @@ const NAMES: [&str; 10] = [
     "VPSHUFB",
 ];
 
-/// Whether request 1 counts.
-#[derive(Debug, Clone, Copy, PartialEq, Eq)]
-pub enum Request1 {
-    Before,
-    After,
+/// The requests that count: those up to this one, of those that change an answer.
+#[derive(Debug, Clone, Copy, PartialEq, Eq, PartialOrd, Ord)]
+pub enum Landed {
+    Base,
+    Request1,
+    Request3,
+    Request5,
 }
 
 /// What bytes at the start of some code are.
@@ -56,7 +65,15 @@ enum Found {
     Other,
 }
 
-impl Request1 {
+impl Landed {
+    /// In the order of their landings, the last one today's.
+    pub const ALL: [Landed; 4] = [
+        Landed::Base,
+        Landed::Request1,
+        Landed::Request3,
+        Landed::Request5,
+    ];
+
     /// The answer to an input; none for maps that are applied or composed, which have no code.
     pub fn answer(self, input: &Input) -> Option<Answer> {
         match input {
@@ -71,15 +88,31 @@ impl Request1 {
 
     fn feature_limit(self) -> u32 {
         match self {
-            Request1::Before => 31,
-            Request1::After => 63,
+            Landed::Base => 31,
+            _ => 63,
+        }
+    }
+
+    /// Most bytes of a list.
+    fn code_limit(self) -> usize {
+        match self {
+            Landed::Request5 => 16_384,
+            _ => 4_096,
+        }
+    }
+
+    /// Least bytes of a listing's text.
+    fn text_least(self) -> usize {
+        match self {
+            Landed::Request5 => 64,
+            _ => 25_624,
         }
     }
 
     fn find(self, code: &[u8], features: u32) -> Found {
         match (lane_permutes::decode(code, features), self) {
             (None, _) => Found::Other,
-            (Some(_), Request1::Before) => Found::Refused(3),
+            (Some(_), Landed::Base) => Found::Refused(3),
             (Some(Ok(instruction)), _) => Found::New(instruction),
             (Some(Err(status)), _) => Found::Refused(status),
         }
@@ -167,7 +200,7 @@ impl Request1 {
         {
             return (1, 0, 0);
         }
-        if code.len() > CODE_LIMIT {
+        if code.len() > self.code_limit() {
             return (8, 0, 0);
         }
         let (mut steps, mut place) = (0, 0);
@@ -202,7 +235,7 @@ impl Request1 {
         if map.len() != MAP_SIZE || masks.len() != MASK_COUNT || *features > self.feature_limit() {
             return (1, 0);
         }
-        if code.len() > CODE_LIMIT {
+        if code.len() > self.code_limit() {
             return (8, 0);
         }
         let mut entries: Vec<u16> = (0..MAP_ZERO).collect();
@@ -233,15 +266,16 @@ impl Request1 {
 
     fn listing(self, input: &Listing) -> Answer {
         let ((status, written), digest) = input.text.call(|text| {
-            if text.len() < TEXT_SIZE {
+            if text.len() < self.text_least() {
                 return (1, 0);
             }
-            if input.code.len() > CODE_LIMIT {
+            if input.code.len() > self.code_limit() {
                 return (8, 0);
             }
             let lines = self.lines(&input.code);
-            text[..lines.len()].copy_from_slice(lines.as_bytes());
-            (0, lines.len())
+            let piece = whole_lines(&lines, text.len());
+            text[..piece.len()].copy_from_slice(piece.as_bytes());
+            (0, piece.len())
         });
         Answer {
             status,
@@ -250,7 +284,11 @@ impl Request1 {
         }
     }
 
-    /// The text of a listing, which decodes with all features that there are.
+    /// The whole text of a listing, which decodes with all features that there are.
+    ///
+    /// # Panics
+    ///
+    /// If there is a 4, and no field of that instruction is wrong.
     pub fn lines(self, code: &[u8]) -> String {
         let mut lines = "at\tlen\tname\tbits\tanswer\n".to_string();
         let mut place = 0;
@@ -263,7 +301,8 @@ impl Request1 {
                 ..
             } = decoded;
             if status != 0 {
-                return lines + &format!("{place}\t0\t-\t0\t{status}\n");
+                let answer = self.answer_field(status, &code[place..]);
+                return lines + &format!("{place}\t0\t-\t0\t{answer}\n");
             }
             let name = NAMES[decoded.mnemonic as usize - 1];
             lines += &format!("{place}\t{length}\t{name}\t{bits}\t0\n");
@@ -271,6 +310,22 @@ impl Request1 {
         }
         lines
     }
+
+    /// The end of a refused instruction's line.
+    fn answer_field(self, status: u32, code: &[u8]) -> String {
+        if status != 4 || self < Landed::Request3 {
+            return status.to_string();
+        }
+        let reason = request_3::reason(code).expect("with 4 a field is wrong");
+        format!("4:{reason}")
+    }
+}
+
+/// As many whole lines of a text as fit into so many bytes. At the base, all of them do.
+pub fn whole_lines(text: &str, size: usize) -> &str {
+    let fitting = &text[..size.min(text.len())];
+    let end = fitting.rfind('\n').map_or(0, |newline| newline + 1);
+    &text[..end]
 }
 
 /// An instruction of the base: its own map, and the entries that this names.

@@ -1,0 +1,64 @@
+//! Shared by the tests.
+
+use settled::answer::Answer;
+use settled::base::Base;
+use settled::digest::Digest;
+use settled::entry_point::EntryPoint;
+use settled::frozen::folder;
+use settled::input::{Input, Listing};
+use settled::landed::Landed;
+use settled::room::Room;
+use settled::rules::RULES;
+
+pub fn base() -> Base {
+    Base::read(&folder()).expect("the frozen files can be read")
+}
+
+/// The frozen listings.
+pub fn listings(base: &Base) -> impl Iterator<Item = Listing> + '_ {
+    base.inputs(EntryPoint::Listing).map(|input| match input {
+        Input::Listing(listing) => listing,
+        _ => panic!("no listing:\n{input}"),
+    })
+}
+
+/// A listing into text of this size, in a room as large as the frozen ones have.
+pub fn listing(size: u16, code: &[u8]) -> Input {
+    Input::Listing(Listing {
+        text: Room::new(vec![7; 26_112], size),
+        code: code.to_vec(),
+    })
+}
+
+/// The number of the rule that explains this difference.
+pub fn rule(input: &Input, old: &Answer, new: &Answer) -> Option<usize> {
+    RULES
+        .iter()
+        .position(|rule| (rule.explains)(input, old, new))
+}
+
+/// The base's answer to an input that has code, and today's.
+pub fn answers(input: &Input) -> [Answer; 2] {
+    let answer = |landed: Landed| landed.answer(input).expect("an input with code");
+    [answer(Landed::Base), answer(Landed::Request5)]
+}
+
+/// The right answer has this rule, and one that is wrong in any part has none.
+pub fn expect_rule(input: &Input, number: usize) {
+    let [old, right] = answers(input);
+    assert_eq!(rule(input, &old, &right), Some(number), "{input}");
+    let changes: [fn(&mut Answer); 3] = [
+        |answer| answer.status ^= 1,
+        |answer| answer.numbers[0] += 1,
+        |answer| answer.digest = Digest(answer.digest.0 ^ 1),
+    ];
+    for change in changes {
+        let mut wrong = right.clone();
+        change(&mut wrong);
+        assert_eq!(rule(input, &old, &wrong), None, "{input}\n{wrong}");
+        // The old answer has to be the base's, too.
+        let mut other = old.clone();
+        change(&mut other);
+        assert_eq!(rule(input, &other, &right), None, "{input}\n{other}");
+    }
+}
