@@ -13,20 +13,20 @@ const LISTINGS: [Listing; 2] = [by_library, by_reference];
 
 /// Bytes of text for a piece at each place, and the places in the longest list. Behind the last one
 /// there are more lines than fit, too.
-const TEXT_SIZE: usize = 256;
+const PIECE_SIZE: usize = 256;
 const PLACES: [usize; 6] = [0, 4, 4_096, 8_192, 12_288, CODE_LIMIT - 64];
 /// How many pieces a round takes at a place.
 const PIECES: usize = 4_000;
 
 /// Sizes of text for the whole listing, and how often a round takes it.
-const TEXT_SIZES: [usize; 4] = [TEXT_LEAST, TEXT_SIZE, 4_096, TEXT_WHOLE];
+const SIZES: [usize; 4] = [TEXT_LEAST, PIECE_SIZE, 4_096, TEXT_WHOLE];
 const PASSES: usize = 10;
 
 /// Prints the tables. An error says where results differ.
 pub fn print() -> Result<(), String> {
     let code = unpacks(MOST_STEPS as usize, &mut Random::new(8)).code;
     println!(
-        "ns per piece of a listing (less is faster), {TEXT_SIZE} bytes of text, list of {} bytes, \
+        "ns per piece of a listing (less is faster), {PIECE_SIZE} bytes of text, list of {} bytes, \
          median of {ROUNDS} rounds of {PIECES}",
         code.len()
     );
@@ -43,14 +43,12 @@ pub fn print() -> Result<(), String> {
         "{:>8}{:>8}{:>12}{:>12}{:>20}{:>18}",
         "text", "pieces", "library", "reference", "library/reference", "library ns/line"
     );
-    TEXT_SIZES
-        .iter()
-        .try_for_each(|size| print_whole(&code, *size))
+    SIZES.iter().try_for_each(|size| print_whole(&code, *size))
 }
 
 fn print_piece(code: &[u8], place: usize) -> Result<(), String> {
     let [library, reference] = LISTINGS.map(|listing| {
-        let mut text = [0; TEXT_SIZE];
+        let mut text = [0; PIECE_SIZE];
         (listing(code, place, &mut text), text)
     });
     // With lines behind it, a piece is as full as it can be.
@@ -60,7 +58,7 @@ fn print_piece(code: &[u8], place: usize) -> Result<(), String> {
     }
     let lines = lines(&text[..written as usize]) - usize::from(place == 0);
     let times = times(PIECES, |listing| {
-        let mut text = [0; TEXT_SIZE];
+        let mut text = [0; PIECE_SIZE];
         for _ in 0..PIECES {
             let text = black_box(&mut text);
             black_box(listing(black_box(code), black_box(place), text));

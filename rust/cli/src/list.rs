@@ -19,6 +19,7 @@ pub fn run(words: &[OsString]) -> Result<Answer, Failure> {
     note_hex(&options, word, &code);
     let end = pieces(&code, &mut [0; PIECE_SIZE], print)?;
     note_reason(&code, end);
+    // Everything has been printed.
     Ok(Answer::default())
 }
 

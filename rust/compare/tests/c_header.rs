@@ -18,67 +18,73 @@ fn printed(source: &str, name: &str) -> String {
     compiler::printed(&folder.join(source), name)
 }
 
+/// What tests/c/header.c prints.
+const PRINTED: &str = "\
+accepted: 0 6 8 1 256 1 17 9 0 3 1 1 0 0, reason 0\n\
+too short: 2 0 0 0 0 0 0 0 0 0 0 0 0 0, reason 0\n\
+empty: 2 0 0 0 0 0 0 0 0 0 0 0 0 0, reason 0\n\
+features: 1 0 0 0 0 0 0 0 0 0 0 0 0 0, reason 0\n\
+vpshufb: 0 6 0 10 512 1 1 2 3 0 0 0 0 0, reason 0\n\
+without avx512bw: 5 0 0 0 0 0 0 0 0 0 0 0 0 0, reason 0\n\
+z: 4 0 0 0 0 0 0 0 0 0 0 0 0 0, reason 6\n\
+b and z: 4 0 0 0 0 0 0 0 0 0 0 0 0 0, reason 5\n\
+address: 0 0 1 000000000000a020\n\
+next instruction: 0 0 1 fffffffffffffffe\n\
+register form: 0 0 0 0000000000000000\n\
+fifteen registers: 1 0 0 0000000000000000\n\
+short address: 2 0 0 0000000000000000\n\
+reserved address: 4 6 0 0000000000000000\n\
+step: 0 7, bytes 0 5 8 0 0\n\
+refused step: 6 0, bytes 5 8\n\
+reserved step: 4 0, reason 2\n\
+run: 2 9 3, bytes 199 134 0\n\
+no budget: 0 0 0\n\
+build: 9 0, entries 196 132 2048\n\
+refused build: 9 3, entry 0\n\
+apply: 0, bytes 199 0\n\
+compose: 0, entries 132 0\n\
+refused apply: 9\n\
+reserved build: 4 4, reason 3\n\
+reserved run: 1 4 4, reason 3\n\
+short text: 0 0 1 0, changed 0\n\
+place behind: 0 0 1 0, changed 0\n\
+listing: 72 9 0 0, changed 72\n\
+at\tlen\tname\tbits\tanswer\n\
+0\t4\tVUNPCKLPS\t128\t0\n\
+4\t5\tVPSHUFD\t128\t0\n\
+9\t0\t-\t0\t3\n\
+first piece: 62 9 0 1, changed 62\n\
+at\tlen\tname\tbits\tanswer\n\
+0\t4\tVUNPCKLPS\t128\t0\n\
+4\t5\tVPSHUFD\t128\t0\n\
+second piece: 10 9 0 0, changed 10\n\
+9\t0\t-\t0\t3\n\
+nested: 42 9 0 0, changed 42\n\
+at\tlen\tname\tbits\tanswer\n\
+0\t9\tVPSHUFD\t128\t0\n\
+inside: 30 8 0 0, changed 30\n\
+4\t4\tVUNPCKLPS\t128\t0\n\
+8\t0\t-\t0\t3\n\
+at the end: 0 10 0 0, changed 0\n\
+empty listing: 24 0 0 0, changed 24\n\
+at\tlen\tname\tbits\tanswer\n\
+reserved listing: 56 4 0 0, changed 56\n\
+at\tlen\tname\tbits\tanswer\n\
+0\t4\tVUNPCKLPS\t128\t0\n\
+4\t0\t-\t0\t4:3\n\
+run: 4096 16384 0, build: 16384 0\n\
+listing: 95550 16384 0 0, changed 95550\n\
+last line: 24 16384 0 0, changed 24\n\
+16380\t4\tVUNPCKLPS\t128\t0\n\
+short text: 0 0 1 0, changed 0\n\
+run: 0 0 8, build: 0 8\n\
+listing: 0 0 8 0, changed 0\n\
+last line: 0 0 8 0, changed 0\n\
+short text: 0 0 1 0, changed 0\n";
+
 #[test]
 fn c_program_runs_against_the_archive() {
-    let printed = printed("header.c", "c_header");
-    let expected = "accepted: 0 6 8 1 256 1 17 9 0 3 1 1 0 0, reason 0\n\
-                    too short: 2 0 0 0 0 0 0 0 0 0 0 0 0 0, reason 0\n\
-                    empty: 2 0 0 0 0 0 0 0 0 0 0 0 0 0, reason 0\n\
-                    features: 1 0 0 0 0 0 0 0 0 0 0 0 0 0, reason 0\n\
-                    vpshufb: 0 6 0 10 512 1 1 2 3 0 0 0 0 0, reason 0\n\
-                    without avx512bw: 5 0 0 0 0 0 0 0 0 0 0 0 0 0, reason 0\n\
-                    z: 4 0 0 0 0 0 0 0 0 0 0 0 0 0, reason 6\n\
-                    b and z: 4 0 0 0 0 0 0 0 0 0 0 0 0 0, reason 5\n\
-                    address: 0 0 1 000000000000a020\n\
-                    next instruction: 0 0 1 fffffffffffffffe\n\
-                    register form: 0 0 0 0000000000000000\n\
-                    fifteen registers: 1 0 0 0000000000000000\n\
-                    short address: 2 0 0 0000000000000000\n\
-                    reserved address: 4 6 0 0000000000000000\n\
-                    step: 0 7, bytes 0 5 8 0 0\n\
-                    refused step: 6 0, bytes 5 8\n\
-                    reserved step: 4 0, reason 2\n\
-                    run: 2 9 3, bytes 199 134 0\n\
-                    no budget: 0 0 0\n\
-                    build: 9 0, entries 196 132 2048\n\
-                    refused build: 9 3, entry 0\n\
-                    apply: 0, bytes 199 0\n\
-                    compose: 0, entries 132 0\n\
-                    refused apply: 9\n\
-                    reserved build: 4 4, reason 3\n\
-                    reserved run: 1 4 4, reason 3\n\
-                    short text: 0 0 1 0, changed 0\n\
-                    place behind: 0 0 1 0, changed 0\n\
-                    listing: 72 9 0 0, changed 72\n\
-                    at\tlen\tname\tbits\tanswer\n\
-                    0\t4\tVUNPCKLPS\t128\t0\n\
-                    4\t5\tVPSHUFD\t128\t0\n\
-                    9\t0\t-\t0\t3\n\
-                    first piece: 62 9 0 1, changed 62\n\
-                    at\tlen\tname\tbits\tanswer\n\
-                    0\t4\tVUNPCKLPS\t128\t0\n\
-                    4\t5\tVPSHUFD\t128\t0\n\
-                    second piece: 10 9 0 0, changed 10\n\
-                    9\t0\t-\t0\t3\n\
-                    inside: 10 5 0 0, changed 10\n\
-                    5\t0\t-\t0\t3\n\
-                    at the end: 0 10 0 0, changed 0\n\
-                    empty listing: 24 0 0 0, changed 24\n\
-                    at\tlen\tname\tbits\tanswer\n\
-                    reserved listing: 56 4 0 0, changed 56\n\
-                    at\tlen\tname\tbits\tanswer\n\
-                    0\t4\tVUNPCKLPS\t128\t0\n\
-                    4\t0\t-\t0\t4:3\n\
-                    run: 4096 16384 0, build: 16384 0\n\
-                    listing: 95550 16384 0 0, changed 95550\n\
-                    last line: 24 16384 0 0, changed 24\n\
-                    16380\t4\tVUNPCKLPS\t128\t0\n\
-                    short text: 0 0 1 0, changed 0\n\
-                    run: 0 0 8, build: 0 8\n\
-                    listing: 0 0 8 0, changed 0\n\
-                    last line: 0 0 8 0, changed 0\n\
-                    short text: 0 0 1 0, changed 0\n";
-    assert_eq!(printed, expected);
+    assert_eq!(printed("header.c", "c_header"), PRINTED);
 }
 
 /// The constants of the Rust wrapper, under the names that the header gives them.

@@ -221,6 +221,8 @@ static void piece(const char *name, const uint8_t *code, size_t code_len, size_t
 
 static void listing(void)
 {
+    /* vpshufd xmm1, [rax + disp32], 0x1b, with vunpcklps xmm1, xmm2, xmm3 as its displacement */
+    const uint8_t nested[] = {0xC5, 0xF9, 0x70, 0x88, 0xC5, 0xE8, 0x14, 0xCB, 0x1B};
     const size_t least = TARHUSPO_TEXT_LEAST;
 
     piece("short text", list, sizeof list, 0, least - 1);
@@ -228,7 +230,8 @@ static void listing(void)
     piece("listing", list, sizeof list, 0, sizeof text);
     piece("first piece", list, sizeof list, 0, least);
     piece("second piece", list, sizeof list, 9, least);
-    piece("inside", list, sizeof list, 5, least);
+    piece("nested", nested, sizeof nested, 0, least);
+    piece("inside", nested, sizeof nested, 4, least);
     piece("at the end", list, sizeof list, sizeof list, least);
     piece("empty listing", list, 0, 0, least);
     piece("reserved listing", reserved_list, sizeof reserved_list, 0, sizeof text);
