@@ -53,6 +53,15 @@ at\tlen\tname\tbits\tanswer\n\
 0\t4\tVUNPCKLPS\t128\t0\n\
 4\t5\tVPSHUFD\t128\t0\n\
 9\t0\t-\t0\t3\n\
+just fits: 72 9 0 0, changed 72\n\
+at\tlen\tname\tbits\tanswer\n\
+0\t4\tVUNPCKLPS\t128\t0\n\
+4\t5\tVPSHUFD\t128\t0\n\
+9\t0\t-\t0\t3\n\
+a byte less: 62 9 0 1, changed 62\n\
+at\tlen\tname\tbits\tanswer\n\
+0\t4\tVUNPCKLPS\t128\t0\n\
+4\t5\tVPSHUFD\t128\t0\n\
 first piece: 62 9 0 1, changed 62\n\
 at\tlen\tname\tbits\tanswer\n\
 0\t4\tVUNPCKLPS\t128\t0\n\

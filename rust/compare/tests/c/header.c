@@ -228,6 +228,8 @@ static void listing(void)
     piece("short text", list, sizeof list, 0, least - 1);
     piece("place behind", list, sizeof list, sizeof list + 1, sizeof text);
     piece("listing", list, sizeof list, 0, sizeof text);
+    piece("just fits", list, sizeof list, 0, 72);
+    piece("a byte less", list, sizeof list, 0, 71);
     piece("first piece", list, sizeof list, 0, least);
     piece("second piece", list, sizeof list, 9, least);
     piece("nested", nested, sizeof nested, 0, least);
