@@ -319,7 +319,7 @@ typedef struct {
  * newline ends every line, also the last. No null byte is added.
  *
  * Every place, in text too, is counted in bytes from the start of code. place may be any up to
- * code_len: inside an instruction, the bytes from there on are decoded.
+ * code_len. If it is inside an instruction, the bytes from there on are decoded.
  *
  *  - If a line does not fit, that of a refused instruction included, more is 1, and next is where
  *    its instruction starts.
@@ -328,7 +328,8 @@ typedef struct {
  *    but if that is 0 the headings.
  *
  * If more is 1, next is over place, since 64 bytes hold the headings and another line. So this loop
- * ends, also after a refusal, and its pieces make up one text, whatever each call's text_len is:
+ * ends, at once if a call is refused. Its pieces joined are the same text whatever text_len is,
+ * also if that is another one in each call:
  *
  *     size_t place = 0;
  *     tarhuspo_listed l;
