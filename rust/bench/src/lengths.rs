@@ -1,4 +1,4 @@
-//! Lists by their bytes, up to the longest: what a step or a line costs does not grow with the list.
+//! Lists by their bytes, up to the longest: what a step or a line costs, as they grow.
 
 use crate::calls::{unpacks, Input, Operation, APPLY, BUILD, LIST, RUN};
 use crate::timing::ROUNDS;

@@ -31,8 +31,8 @@ pub const MAP_SIZE: usize = FILE_SIZE;
 /// The entry of a byte map that stands for a zero byte.
 pub const MAP_ZERO: u16 = 2_048;
 /// Least bytes of the text of a listing. They hold the line of headings and one more, so that every
-/// piece of a listing moves on.
+/// piece moves on.
 pub const TEXT_LEAST: usize = 64;
-/// Bytes of text that hold the whole listing of every list, in one piece: 24 of headings, and 27 for
-/// each of [`MOST_STEPS`] lines.
+/// Bytes of text that hold the whole listing of every list, in one piece: 24 of headings, and 27
+/// for each of [`MOST_STEPS`] lines.
 pub const TEXT_WHOLE: usize = 110_616;

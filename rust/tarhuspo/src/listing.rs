@@ -25,10 +25,11 @@ pub struct Listed {
 /// is refused is the last one; it has length 0, name `-` and width 0. Status 4 is written with a
 /// colon and its [`reason`](crate::reason).
 ///
-/// `code` has at most 16,384 bytes, `place` is at most its length, and `text` has at least 64 bytes.
-/// Bytes of `text` behind the last line stay as they are.
+/// `code` has at most 16,384 bytes, `place` is at most its length, and `text` has at least 64
+/// bytes. Those of `text` behind the last line stay as they are. A piece takes as long as its lines
+/// do, wherever they stand.
 ///
-/// Where lines remain, `next` is larger than `place`. So this loop ends, and the pieces together are
+/// Where lines remain, `next` is larger than `place`. So this loop ends, and the pieces joined are
 /// the whole text, whatever size `text` has:
 ///
 /// ```
@@ -62,8 +63,8 @@ pub struct Listed {
 /// assert_eq!(place, 18);
 /// ```
 ///
-/// A text of [`TEXT_WHOLE`](crate::limits::TEXT_WHOLE) bytes gets the whole listing of every list in
-/// one piece:
+/// A text of [`TEXT_WHOLE`](crate::limits::TEXT_WHOLE) bytes gets the whole listing of every list
+/// in one piece:
 ///
 /// ```
 /// use tarhuspo::limits::{CODE_LIMIT, TEXT_WHOLE};

@@ -236,8 +236,8 @@ fn refused_at_the_end(steps: Vec<Step>) -> (Vec<u8>, String, String) {
     (code, text, note)
 }
 
-/// The texts have every length around 4,096 bytes, which the command prints at a time: the last line
-/// stands in front of that border, across it and behind it.
+/// The texts have every length around 4,096 bytes, which the command prints at a time: the last
+/// line stands in front of that border, across it and behind it.
 #[test]
 fn refused_lines_at_the_border_of_a_piece() {
     let (mut lengths, wanted) = (BTreeSet::new(), 4_070..4_130);
