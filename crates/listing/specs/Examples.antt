@@ -1,9 +1,10 @@
 -- Section 8 of the rules: whole listings, and pieces with their answers. All are proved by computing.
-use Prim.Native.Nat.{ℕ}
+use Prim.Native.Nat.{ℕ, _+_, _*_}
 use mathlib.Core.Path.{_≡_, refl}
 use mathlib.Core.Bool.{Bool, true, false}
 use mathlib.Core.List.{List, [], _∷_, _++_, map}
-use lib.ListN.{replicate}
+use lib.ListN.{length, replicate}
+use Rattle.isa.specs.Kinds.{textWhole}
 use Rattle.isa.specs.Features.{hasFeature}
 use Rattle.isa.specs.Operands.{widthOf, elementOf, digitsOf, halfOf, moveFrom, controlOf}
 use Rattle.isa.specs.Table.{rows, findIn, matchesRow, matchesW}
@@ -15,9 +16,10 @@ use Rattle.decode.specs.Reserved.{wrongW, wrongWidth, wrongVvvv, wrongBroadcast
 use Rattle.decode.specs.Instruction.{encodingOf, firstOf, thirdOf, immediateOf, instructionOf}
 use Rattle.decode.specs.Decode.{finishOf, onTotal, onRow, onHead, knownOf, decodeOf}
 use Rattle.run.specs.Split.{split}
+use Rattle.run.specs.Run.{wholeBudget}
 use Rattle.run.specs.declared.Answer.{Answer}
 use Rattle.listing.specs.Text.{ascii, digits, decimal}
-use Rattle.listing.specs.Listing.{lineText, reasonText, splitFrom, stepLines, lastLine, endFrom, linesFrom, linesText, listingText, headingsAt, fitting, remaining, pieceText, pieceOf, listingOf, textAfter}
+use Rattle.listing.specs.Listing.{headings, lineText, reasonText, splitFrom, stepLines, lastLine, endFrom, linesFrom, linesText, listingText, headingsAt, fitting, remaining, pieceText, pieceOf, listingOf, textAfter}
 use Rattle.listing.specs.declared.Listed.{Listed}
 
 -- rule 8.7: a step, and one that is cut off
@@ -62,6 +64,10 @@ unfolding listingText linesText linesFrom endFrom splitFrom stepLines lastLine l
 reasons = refl
 
 -- ---- request 5: pieces
+
+-- rule 8.6: headings and a line for each step that a list can have
+pub whole-text : textWhole ≡ length headings + 27 * wholeBudget
+whole-text = refl
 
 -- bytes written, next place, whether lines remain
 abbrev pub piece : ℕ → ℕ → Bool → Listed

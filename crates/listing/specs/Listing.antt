@@ -134,10 +134,11 @@ pieceOf code place text =
 abbrev pub refusedListing : Refusal → Listed
 refusedListing why = record { written = 0; next = 0; more = false; answer = Answer.Refused why }
 
--- rule 8.1: the size of the text and the place, which may be the list's end; then the list's length. A list with a refused step is listed like others
+-- rule 8.1: the size of the text and the place, which may be the list's end. `code` is a length here
 abbrev pub callRight : ℕ → ℕ → ℕ → Bool
 callRight code place text = both (leb textLeast text) (leb place code)
 
+-- then the list's length. A list with a refused step is listed like others
 unfoldable pub listingOf : List ℕ → ℕ → ℕ → Listed
 listingOf code place text =
     if callRight (length code) place text then

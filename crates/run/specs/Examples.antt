@@ -1,9 +1,10 @@
 -- Section 6 of the rules: runs by their numbers, proved by computing. The list is VPSHUFD (5 bytes), VUNPCKLPS (4 bytes) and a VPSHUFD that wants
 -- memory; it is run under each budget, and cut off within an instruction and behind one. Then the order of answers 1 and 8 and the steps.
-use Prim.Native.Nat.{ℕ}
+use Prim.Native.Nat.{ℕ, _*_}
 use mathlib.Core.Path.{_≡_, refl}
 use mathlib.Core.List.{List, [], _∷_}
 use lib.ListN.{replicate, take}
+use Rattle.isa.specs.Kinds.{codeLimit}
 use Rattle.isa.specs.Features.{hasFeature}
 use Rattle.isa.specs.Operands.{widthOf, elementOf, digitsOf, halfOf, moveFrom, controlOf}
 use Rattle.isa.specs.Table.{rows, findIn, matchesRow, matchesW}
@@ -41,6 +42,10 @@ pub steps : front 14 0 ∷ front 14 1 ∷ front 14 2 ∷ front 14 3 ∷ front 14
     ∷ []
 unfolding runOf steppedRun runSplit split decodeOf knownOf onHead onRow onTotal finishOf headOf prefixSize prefixOf fixedBits rows findIn matchesRow matchesW sibSize displacementSize checkOf wrongW wrongWidth wrongVvvv wrongBroadcast wrongZeroing enoughOf neededOf hasFeature instructionOf encodingOf firstOf thirdOf immediateOf widthOf elementOf digitsOf halfOf moveFrom controlOf
 steps = refl
+
+-- rule 6.7: a step has at least four bytes
+pub budget : 4 * wholeBudget ≡ codeLimit
+budget = refl
 
 -- with a budget of 0: a list of as many bytes as may be, of one more, and that with a wrong file, wrong masks or wrong features
 pub order : runOf (replicate 16384 0) 2048 8 63 0 ∷ runOf (replicate 16385 0) 2048 8 63 0 ∷ runOf (replicate 16385 0) 2047 8 63 0 ∷ runOf (replicate 16385 0) 2048 7 63 0 ∷ runOf (replicate 16385 0) 2048 8 64 0 ∷ []

@@ -1,5 +1,6 @@
 use borrow.Author.Needs.{needs}
-use Rattle.seq.proofs.Cases.{cases}
+use borrow.Author.Tests.{le-leb, lt-leb}
+use Rattle.isa.specs.Kinds.{textLeast}
 use Rattle.listing.proofs.call_right.Statement.{statement}
 use Rattle.listing.proofs.call_right.Tie as tie
 
@@ -7,5 +8,5 @@ pub call-right-spec : {M : Type 1} → statement M
 call-right-spec =
     tie.close
     (tie.spec
-    (λ c. search (needs, cases) depth 12)
-    (λ c. search (needs, cases) depth 12))
+    (λ c. rw (lt-leb textLeast (c .before .args .text) (c .if1 .taken)))
+    (λ c. rw (le-leb textLeast (c .before .args .text) (c .if1 .left))))
