@@ -1,4 +1,4 @@
-//! Comparison of listings, piece by piece: every field of the result, and every byte of every buffer.
+//! Comparison of listings, piece by piece: the whole result, and every byte of every buffer.
 
 use crate::display;
 use crate::guard::Guarded;
@@ -43,8 +43,8 @@ impl Case {
     }
 }
 
-/// Bytes of text that hold a list's headings and lines: 27 are allowed a line, and an instruction has
-/// at least 4 bytes, but for a refused one.
+/// Bytes of text that hold a list's headings and lines: 27 are allowed a line, and an instruction
+/// has at least 4 bytes, but for a refused one.
 pub fn enough(code: &[u8]) -> usize {
     TEXT_LEAST.max(24 + 27 * (code.len() / 4 + 1))
 }
@@ -86,9 +86,9 @@ impl Comparison {
     ///
     /// # Panics
     ///
-    /// If the results or the texts differ, if a refusal has another number than its status or changed
-    /// text, if the last line has a reason with another status than 4, or if the library changed the
-    /// code or bytes around a buffer.
+    /// If the results or the texts differ, if a refusal has another number than its status or
+    /// changed text, if the last line has a reason with another status than 4, or if the library
+    /// changed the code or bytes around a buffer.
     pub fn check(&mut self, case: &Case) -> Listed {
         self.before.clear();
         let old = (0..case.text_size).map(|i| case.old.wrapping_add(i as u8));

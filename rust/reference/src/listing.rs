@@ -17,8 +17,8 @@ pub struct Listed {
     pub more: bool,
 }
 
-/// Writes as many whole lines as fit into `text`: those of the steps of `code` from `place` on, behind
-/// the header if that is 0.
+/// Writes as many whole lines as fit into `text`: those of the steps of `code` from `place` on,
+/// behind the header if that is 0.
 pub fn listing(code: &[u8], place: usize, text: &mut [u8]) -> Listed {
     match accept(code, place, text) {
         Ok(()) => list(code, place, text),

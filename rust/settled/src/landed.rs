@@ -1,9 +1,10 @@
 //! What an input has to answer: at the base, and with the requests that have landed since.
 //!
-//! Request 1: bytes of the six new rows answered 3, and now do what [`lane_permutes`] says. Features
-//! over 31 answered 1, and up to 63 no longer do. All other bytes are as before: no row of the base
-//! needs feature bit 5, so they are given to today's library with the features below it. The stored
-//! inputs with such bytes and such features alone, which are most, hold the library to these answers.
+//! Request 1: bytes of the six new rows answered 3, and now do what [`lane_permutes`] says.
+//! Features over 31 answered 1, and up to 63 no longer do. All other bytes are as before: no row of
+//! the base needs feature bit 5, so they are given to today's library with the features below it.
+//! The stored inputs with such bytes and such features alone, which are most, hold the library to
+//! these answers.
 //!
 //! Request 3: a listing has the reason behind a 4 ([`request_3`]). It asked for a text of 27,672
 //! bytes, too. Request 5 has taken that back, so that no answer shows it any more, and it is not
@@ -13,8 +14,8 @@
 //! The frozen listings have no place, and are taken from place 0.
 //!
 //! Lists are gone through here, an instruction at a time, as document 01 says it: the library is
-//! asked about single instructions, which no limit is for. At the base that gives the base's answers,
-//! and with all requests today's, which a test sees on every stored input.
+//! asked about single instructions, which no limit is for. At the base that gives the base's
+//! answers, and with all requests today's, which a test sees on every stored input.
 
 use crate::answer::Answer;
 use crate::decoded::Decoded;
@@ -57,11 +58,11 @@ pub enum Landed {
 
 /// What bytes at the start of some code are.
 enum Found {
-    /// One of the request's rows.
+    /// One of request 1's rows.
     New(Instruction),
     /// Refused.
     Refused(u32),
-    /// Bytes that the request says nothing of.
+    /// Bytes that request 1 says nothing of.
     Other,
 }
 
@@ -96,16 +97,16 @@ impl Landed {
     /// Most bytes of a list.
     fn code_limit(self) -> usize {
         match self {
+            Landed::Base | Landed::Request1 | Landed::Request3 => 4_096,
             Landed::Request5 => 16_384,
-            _ => 4_096,
         }
     }
 
     /// Least bytes of a listing's text.
     fn text_least(self) -> usize {
         match self {
+            Landed::Base | Landed::Request1 | Landed::Request3 => 25_624,
             Landed::Request5 => 64,
-            _ => 25_624,
         }
     }
 

@@ -1,8 +1,8 @@
 //! What request 3 adds to answer 4: which field of the instruction is wrong.
 //!
-//! The frozen answers have no reason, so that status, numbers and buffers of decoding, step, run and
-//! build stay as they were. The text of a listing has it, behind a 4. The reasons of the frozen inputs
-//! are held to [`reason`] by tests of their own.
+//! The frozen answers have no reason, so that status, numbers and buffers of decoding, step, run
+//! and build stay as they were. The text of a listing has it, behind a 4. The reasons of the frozen
+//! inputs are held to [`reason`] by tests of their own.
 
 /// The number of the first wrong field of an instruction, from the request's words and document 01's;
 /// none if no field is wrong. This is for instructions that answer 4. Whether one does is not found

@@ -9,7 +9,7 @@ use compare::lists::Mix;
 use compare::random::Random;
 use tarhuspo::limits::{CODE_LIMIT, TEXT_LEAST, TEXT_WHOLE};
 
-pub const KINDS: [Kind; 7] = [
+pub const KINDS: [Kind; 8] = [
     ("every place", every_place),
     ("joined, of one size", joined),
     ("joined, of any sizes", joined_of_any_sizes),
@@ -17,6 +17,7 @@ pub const KINDS: [Kind; 7] = [
     ("size of the text", text_sizes),
     ("place past the end", past_end),
     ("pieces of long lists", long_lists),
+    ("long, from any place", long_lists_from_any_place),
 ];
 
 /// Compares a piece with what decoding each instruction gives.
@@ -86,7 +87,7 @@ fn last_lines(comparison: &mut Comparison) {
         let steps = random.below(3);
         case.place = list.end_of(steps).min(case.code.len());
         let lines = Lines::new(&case.code, case.place);
-        let (text, _) = lines.piece(usize::MAX);
+        let text = lines.text();
         let Some(last) = lines.last().filter(|_| text.len() > TEXT_LEAST) else {
             return;
         };
@@ -149,15 +150,35 @@ fn past_end(comparison: &mut Comparison) {
         for code in codes_of_all_lengths(&mut random) {
             let mut case = Case::new(&code);
             case.behind = random.bytes(64);
-            let end = code.len();
-            let far = [CODE_LIMIT + 1, 1 << 32, usize::MAX - 1, usize::MAX];
-            for place in [&[end + 1, end + 2, end + 64][..], &far].concat() {
-                case.place = place.max(end + 1);
-                for size in [0, TEXT_LEAST - 1, TEXT_LEAST, 100, 70_000] {
-                    case.text_size = size;
-                    assert_eq!(comparison.check(&case), refusal(1), "{case}");
-                }
-            }
+            check_past_end(comparison, &mut case);
+        }
+    }
+}
+
+fn check_past_end(comparison: &mut Comparison, case: &mut Case) {
+    let end = case.code.len();
+    let far = [1 << 32, usize::MAX - 1, usize::MAX];
+    for place in [&[end + 1, end + 2, end + 64, end + CODE_LIMIT][..], &far].concat() {
+        case.place = place;
+        for size in [0, TEXT_LEAST - 1, TEXT_LEAST, 100, 70_000] {
+            case.text_size = size;
+            assert_eq!(comparison.check(case), refusal(1), "{case}");
+        }
+    }
+}
+
+/// Any place of lists at the limit, in and between instructions.
+fn long_lists_from_any_place(comparison: &mut Comparison) {
+    let mut random = Random::new(18);
+    let mix = Mix::of(|form| !form.shape.memory);
+    for _ in 0..4 {
+        let list = mix.list_of_length(CODE_LIMIT, &mut random);
+        let mut case = Case::new(&list.code);
+        for _ in 0..100 {
+            let any = random.below(CODE_LIMIT + 1);
+            case.place = random.pick(&[any, list.starts[any % list.count()]]);
+            case.text_size = random.pick(&[TEXT_LEAST, 100, 1_000, 70_000]);
+            check_piece(comparison, &case, &Lines::new(&case.code, case.place));
         }
     }
 }

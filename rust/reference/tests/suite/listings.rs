@@ -306,8 +306,8 @@ fn every_place_of_a_list() {
     assert!(inside > 1_000, "{inside} places in instructions");
 }
 
-/// A place inside an instruction is decoded from there: the immediate of the one before, C5, and the
-/// next instruction behind C5 are one together.
+/// A place inside an instruction is decoded from there: its immediate, C5, and the bytes behind it
+/// are another one.
 #[test]
 fn a_place_inside_an_instruction() {
     // vperm2f128 ymm1, ymm2, ymm3, 0xc5, then bytes that are vunpcklps behind that C5.

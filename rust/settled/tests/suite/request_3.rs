@@ -1,5 +1,5 @@
-//! Request 3 by itself: texts of the frozen listings are the old ones with reasons, every frozen 4 has
-//! the right reason, and the answers that its rule takes and does not take.
+//! Request 3 by itself: texts of the frozen listings are the old ones with reasons, every frozen 4
+//! has the right reason, and the answers that its rule takes and does not take.
 
 use crate::tools::{answers, base, expect_rule, listing, listings, rule};
 use settled::base::INPUTS;
@@ -9,7 +9,7 @@ use settled::landed::Landed;
 use settled::request_3::reason;
 use settled::today;
 
-/// Lists into text that is large enough for all lines, and gives it. What lies behind it has to stay.
+/// Lists into text that is large enough for all lines, and gives it. What lies behind has to stay.
 fn listed(code: &[u8]) -> String {
     let lines = 1 + code.len() / 4;
     let mut text = vec![0xEE; 64 + 27 * lines];

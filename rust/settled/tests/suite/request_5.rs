@@ -1,5 +1,5 @@
-//! Request 5 by itself: pieces of the frozen listings, and the answers that its rules take and do not
-//! take.
+//! Request 5 by itself: pieces of the frozen listings, and the answers that its rules take and do
+//! not take.
 
 use crate::tools::{answers, base, expect_rule, listing, listings, rule};
 use settled::answer::Answer;
