@@ -33,7 +33,7 @@ pub struct Run<'a>(pub &'a ListInput);
 pub struct Build<'a>(pub &'a ListInput);
 pub struct Listing<'a>(pub &'a ListInput);
 
-pub const KINDS: [Kind<ListInput>; 23] = [
+pub const KINDS: [Kind<ListInput>; 24] = [
     ("accepted", 4_810, accepted),
     ("short bytes", 1_500, short),
     ("no row", 1_200, no_row),
@@ -53,7 +53,8 @@ pub const KINDS: [Kind<ListInput>; 23] = [
     ("4,096 bytes", 12, at_old_limit),
     ("over 4,096 bytes", 12, past_old_limit),
     ("over 4,096 bytes, refused", 12, past_old_limit_refused),
-    ("16,384 bytes", 12, at_limit),
+    ("16,384 bytes", 6, at_limit),
+    ("16,384 bytes, 4,096 steps", 6, most_steps),
     ("over 16,384 bytes", 36, past_limit),
     ("over 16,384 bytes, sizes", 3, past_limit_wrong_sizes),
     ("over 16,384 bytes, place", 3, past_limit_wrong_place),
@@ -318,20 +319,25 @@ fn of_length(length: usize, maker: &mut Maker) -> ListInput {
     ListInput::new(list.code, ALL, maker)
 }
 
-/// Every other list has as many instructions as there can be, and so the longest listing.
-fn full(length: usize, maker: &mut Maker) -> ListInput {
-    if maker.random.flag() {
-        return of_length(length, maker);
-    }
+/// So many bytes of the shortest instructions: as many as there can be, and so the longest listing.
+fn shortest_steps(length: usize, maker: &mut Maker) -> ListInput {
     let random = &mut maker.random;
-    // vunpcklps of xmm0 to xmm15, xmm0 to xmm15 and xmm0 to xmm7
-    let mut step = || [0xC5, random.bits(5) << 3, 0x14, 0xC0 | random.bits(6)];
+    // vunpcklps, vunpckhps, vunpcklpd and vunpckhpd of xmm0 to xmm15, xmm0 to xmm15 and xmm0 to xmm7
+    let mut step = || {
+        let prefix = random.bits(5) << 3 | random.bits(1);
+        let opcode = 0x14 | random.bits(1);
+        [0xC5, prefix, opcode, 0xC0 | random.bits(6)]
+    };
     let code: Vec<_> = (0..length / 4).flat_map(|_| step()).collect();
     ListInput::new(code, ALL, maker)
 }
 
+/// In every other list, as many instructions as there could be.
 fn at_old_limit(maker: &mut Maker) -> ListInput {
-    full(OLD_CODE_LIMIT, maker)
+    match maker.random.flag() {
+        true => of_length(OLD_CODE_LIMIT, maker),
+        false => shortest_steps(OLD_CODE_LIMIT, maker),
+    }
 }
 
 /// One byte more than the old limit, or anything up to the new one.
@@ -347,12 +353,23 @@ fn past_old_limit_refused(maker: &mut Maker) -> ListInput {
     let list = Mix::mappable(ALL).list_of_length(length, &mut maker.random);
     let fault = maker.random.pick(&LATE_FAULTS);
     let code = [list.code, maker.fault(fault)].concat();
-    ListInput::new(code, ALL, maker)
+    let input = ListInput::new(code, ALL, maker);
+    to_the_end(input, maker)
 }
 
-/// Runs come to the end, or to the step before it; most listings have more lines than fit.
 fn at_limit(maker: &mut Maker) -> ListInput {
-    let input = full(CODE_LIMIT, maker);
+    let input = of_length(CODE_LIMIT, maker);
+    to_the_end(input, maker)
+}
+
+fn most_steps(maker: &mut Maker) -> ListInput {
+    let input = shortest_steps(CODE_LIMIT, maker);
+    to_the_end(input, maker)
+}
+
+/// A run comes to the end of the longest list, or to the step before it, and a listing has many
+/// lines, or those of late steps.
+fn to_the_end(input: ListInput, maker: &mut Maker) -> ListInput {
     let budgets = [MOST_STEPS - 1, MOST_STEPS, u64::MAX];
     let piece = Piece::of_long(&input.code, &mut maker.random);
     ListInput {

@@ -24,8 +24,9 @@ impl Piece {
         let starts = starts(code);
         let third = random.below(1 + starts.len() / 3);
         if random.flag() {
+            let behind = random.pick(&[third, third % 4]);
             return Piece {
-                place: starts[starts.len() - 1 - third],
+                place: starts[starts.len() - 1 - behind],
                 size: few(random),
             };
         }

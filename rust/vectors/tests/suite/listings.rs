@@ -104,7 +104,7 @@ impl Piece<'_> {
 /// A kind of piece: its name, how many there are at least, and whether a piece is of it.
 type Kind = (&'static str, usize, fn(&Piece) -> bool);
 
-const KINDS: [Kind; 26] = [
+const KINDS: [Kind; 27] = [
     ("headings and lines", 24, |p| {
         p.has_lines() && p.place == 0 && p.end() > 0
     }),
@@ -142,6 +142,9 @@ const KINDS: [Kind; 26] = [
     }),
     ("refused line just misses", 24, |p| {
         p.just_misses() && p.refuses_next()
+    }),
+    ("refused behind 4,096 bytes", 2, |p| {
+        p.has_refused_line() && p.listed.next > 4_096
     }),
     ("five digits, lines remain", 4, |p| {
         p.listed.more && p.listed.next >= 10_000

@@ -77,8 +77,9 @@ fn every_form_is_decoded_carried_out_and_addressed() {
     expect_every_form("the address", inputs.map(|i| (&i.code[..], i.features)));
 }
 
-/// Kinds of which no input, or hardly one, is an instruction as the table has it.
-const DAMAGED: [&str; 8] = [
+/// Kinds without every row. Of the damaged ones no input, or hardly one, is an instruction as the
+/// table has it, and only a few instructions have 4 bytes.
+const WITHOUT_EVERY_ROW: [&str; 9] = [
     "cut",
     "no row",
     "reserved field",
@@ -87,6 +88,7 @@ const DAMAGED: [&str; 8] = [
     "one bit flipped, cut",
     "15 bytes from a prefix",
     "any bytes",
+    "16,384 bytes, 4,096 steps",
 ];
 
 /// The rows of the instructions at the start of `code`, told apart by mnemonic and immediate.
@@ -106,7 +108,8 @@ fn rows_of(code: &[u8], most: usize) -> BTreeSet<(u32, u32)> {
 
 /// Every kind has at least so many rows; one with fewer inputs has another row in each.
 fn expect_rows<I>(samples: &Samples<I>, code: fn(&I) -> &[u8], most: usize, least: usize) {
-    for (kind, inputs) in samples.iter().filter(|(kind, _)| !DAMAGED.contains(kind)) {
+    let has_every_row = |kind: &str| !WITHOUT_EVERY_ROW.contains(&kind);
+    for (kind, inputs) in samples.iter().filter(|(kind, _)| has_every_row(kind)) {
         let least = least.min(most.saturating_mul(inputs.len()));
         let rows = inputs.iter().flat_map(|input| rows_of(code(input), most));
         let found = rows.collect::<BTreeSet<_>>().len();
