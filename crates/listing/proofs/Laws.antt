@@ -164,9 +164,10 @@ some-fit code place text p h =
     let fits : length (lineText (lineOf place d)) ≤ room = omega (arith, p .size, headings-most place, line-most code (p .short) place h d refl) in
     rw (one-line code place h d refl, first-fits room (lineOf place d) (after code place d) fits) (omega arith)
 
--- the lines that remain after a piece are those from the next place on
+-- the lines that remain after a piece are those from the next place on, and the first of them does not fit
 pub record Continues (code : List ℕ) (place text : ℕ) (r : Listed) : Type 0 where
   pub has-a-line : length (headingsAt place) < r .written
+  pub full : (l : Line) (ls : List Line) → linesFrom code (r .next) ≡ l ∷ ls → text < r .written + length (lineText l)
   pub grows : place < r .next
   pub inside : r .next < length code
   pub lines : linesFrom code (r .next) ≡ remaining (roomFor place text) (linesFrom code place)
@@ -191,11 +192,13 @@ module _ (code : List ℕ) (place text : ℕ) (p : Passed (length code) place te
       let f = further code (length (fitting room lines)) place l ls e in
       let some = some-fit code place text p (omega (arith, f .grows, f .inside)) in
       let n : nextPlace (remaining room lines) (endFrom code place) ≡ l .place = rw e in
+      let same : linesFrom code (nextPlace (remaining room lines) (endFrom code place)) ≡ remaining room lines = ap (linesFrom code) n ∙ f .lines ∙ sym e in
       record {
         has-a-line = omega (arith, length-append (headingsAt place) (linesText (fitting room lines)), some-bytes (fitting room lines) some);
+        full = λ k ks q. omega (arith, no-more-fit room lines k ks (sym same ∙ q), length-append (headingsAt place) (linesText (fitting room lines)), headings-most place, p .size);
         grows = rw n (omega (arith, f .grows, some));
         inside = rw n (f .inside);
-        lines = ap (linesFrom code) n ∙ f .lines ∙ sym e;
+        lines = same;
       }
 
   finishes : (left : List Line) → remaining room lines ≡ left → someRemain left ≡ false → Finishes code place text (pieceOf code place text)
@@ -210,8 +213,8 @@ module _ (code : List ℕ) (place text : ℕ) (p : Passed (length code) place te
       }
 
 module _ (code : List ℕ) (place : ℕ) (text : List ℕ) where
-  -- a piece after which lines remain holds a line more than the headings; the next place lies further on, within the list, and the lines from there are
-  -- those that remain
+  -- a piece after which lines remain holds a line more than the headings, and has no room for the next one; the next place lies further on, within the
+  -- list, and the lines from there are those that remain
   pub a-piece-continues : listingOf code place (length text) .more ≡ true → Continues code place (length text) (listingOf code place (length text))
   a-piece-continues e = by (case-of code place text) e
     where
