@@ -6,29 +6,28 @@ use mathlib.Core.Bool.{Bool, true, false}
 use mathlib.Core.List.{List, [], _∷_, _++_, append-nil}
 use native.Mathlib.Omega.{arith}
 use lib.Dec.{leb}
-use lib.ListN.{length, take, drop, length-drop, length-append}
+use lib.ListN.{length, take, drop, length-append}
 use lib.Seq.{drop-drop}
 use store.Seg.{drop-pre, take-pre}
 use borrow.Author.Tests.{leb-true, le-leb}
 use Rattle.seq.proofs.Tabulate.{by-lt}
-use Rattle.isa.specs.Kinds.{codeLimit, textLeast, textWhole}
+use Rattle.isa.specs.Kinds.{codeLimit, textLeast}
 use Rattle.isa.specs.Features.{allFeatures}
 use Rattle.isa.specs.declared.refusal.Refusal.{Refusal}
 use Rattle.isa.specs.declared.refusal.Refusal.the-variants.{Argument, TooLong}
 use Rattle.decode.specs.Decode.{decodeOf}
-use Rattle.decode.specs.declared.instruction.Instruction.{Instruction}
 use Rattle.decode.specs.declared.instruction.Decoded.{Decoded}
 use Rattle.run.specs.declared.Answer.{Answer}
 use Rattle.run.proofs.Splits.{no-done, refused-as-decoded}
-use Rattle.listing.specs.Listing.{headings, headingsAt, lineText, linesText, splitFrom, endFrom, linesFrom, listingText, fitting, remaining, nextPlace, someRemain, roomFor, pieceText, pieceOf, refusedListing, callRight, listingOf, textAfter}
-use Rattle.listing.specs.Inner.{lineMost, lineOf}
+use Rattle.listing.specs.Listing.{headings, headingsAt, lineText, linesText, splitFrom, endFrom, linesFrom, fitting, remaining, nextPlace, someRemain, roomFor, pieceText, pieceOf, refusedListing, callRight, listingOf, textAfter}
+use Rattle.listing.specs.Inner.{lineOf}
 use Rattle.listing.specs.declared.Line.{Line}
 use Rattle.listing.specs.declared.Listed.{Listed}
 use Rattle.listing.proofs.Headings.{headings-most}
-use Rattle.listing.proofs.Fits.{none-remain, first-fits, others-remain, in-two, they-fit, no-more-fit}
+use Rattle.listing.proofs.Fits.{first-fits, in-two, no-more-fit}
 use Rattle.listing.proofs.Lines.{line-place, after, no-lines, ends-there, next, one-line, end-is}
-use Rattle.listing.proofs.Bounds.{line-length, line-most, text-most}
-use Rattle.listing.proofs.Whole.{Right, right, piece-fits}
+use Rattle.listing.proofs.Bounds.{line-length, line-most}
+use Rattle.listing.proofs.Whole.{right, piece-fits}
 
 -- ---- a call that answers 1 or 8, or goes
 

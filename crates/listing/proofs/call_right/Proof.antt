@@ -1,4 +1,3 @@
-use borrow.Author.Needs.{needs}
 use borrow.Author.Tests.{le-leb, lt-leb}
 use Rattle.isa.specs.Kinds.{textLeast}
 use Rattle.listing.proofs.call_right.Statement.{statement}

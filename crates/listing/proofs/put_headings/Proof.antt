@@ -1,4 +1,3 @@
-use native.Mathlib.Omega.{arith}
 use borrow.Author.Needs.{needs}
 use Rattle.listing.proofs.Headings.{with-place-0, with-another}
 use Rattle.listing.proofs.put_headings.Statement.{statement}
