@@ -1,7 +1,7 @@
 #!/usr/bin/env python3
 """The expected output of the program `cases` (crates/cases/stdout), worked out without the library.
 
-Each line of document 01's table of cases, and each case of requests 1 and 3, has its answer, length, memory and destination
+Each line of document 01's table of cases, and each case of requests 1, 3 and 6, has its answer, length, memory and destination
 bytes written here by hand, from the papers' rules for the instruction: there is no decoder. From the repository's top,
 `python3 docs/cases.py > crates/cases/stdout` writes the file. `.ci/run` compares the file with what this prints, and
 `rt check cases` with what the program prints.
@@ -175,7 +175,27 @@ RESERVED = [
     ("62 F1 7D D8 70 CA 1B", wrong(B)),
 ]
 
-CASES = [(31, code, result) for code, result in BASE] + MORE + [(63, code, result) for code, result in RESERVED]
+# Request 6: sets of features that no processor has, then no feature at all and one that is complete.
+FEATURE_SETS = [
+    # AVX2 without AVX.
+    (2, "C5 FD 70 CA 1B", refused(1)),
+    # AVX512F without AVX.
+    (4, "62 F1 7D 48 70 CA 1B", refused(1)),
+    # AVX512VL alone.
+    (8, "C5 F9 70 CA 1B", refused(1)),
+    # AVX, and AVX512VL, AVX512_VBMI or AVX512BW without AVX512F.
+    (9, "62 F1 7D 28 70 CA 1B", refused(1)),
+    (17, "62 F2 6D 48 8D CB", refused(1)),
+    (33, "62 F2 6D 48 00 CB", refused(1)),
+    # All but AVX512F, and all but AVX.
+    (59, "C5 F9 70 CA 1B", refused(1)),
+    (62, "C5 F9 70 CA 1B", refused(1)),
+    (0, "C5 F9 70 CA 1B", refused(5)),
+    # VPSHUFD ymm1, ymm2, 1B under EVEX, with AVX, AVX512F and AVX512VL
+    (13, "62 F1 7D 28 70 CA 1B", accepted(7, 0, 1, turned(2, 0) + turned(2, 1) + zeros(32))),
+]
+
+CASES = [(31, code, result) for code, result in BASE] + MORE + [(63, code, result) for code, result in RESERVED] + FEATURE_SETS
 
 # Controls for a lane. Every lane of register 3 and of memory has them, in both files.
 

@@ -231,11 +231,12 @@ pub record Examples : Type 0 where
   pub far : addressOf (0xC5 ∷ 0xF9 ∷ 0x70 ∷ 0x0D ∷ 0xFF ∷ 0xFF ∷ 0xFF ∷ 0xFF ∷ 0x1B ∷ []) allFeatures registers 0x123456789ABC ≡ Addressed.At (0x123456789ABC + 8)
   pub turning : answered registers (2 ^ 64 - 4) turns ≡ expected turns
   pub otherwise : answered registers place others ≡ expected others
-  -- other than sixteen registers, and features over the limit, before anything else; a missing feature last
+  -- other than sixteen registers, features over the limit, and all features but AVX (request 6), before anything else; a missing feature last
   pub fifteen : addressOf [] allFeatures (replicate 15 0) 0 ≡ Addressed.Refused Argument
   pub seventeen : addressOf (0xC5 ∷ 0xF9 ∷ 0x70 ∷ 0xCA ∷ 0x1B ∷ []) allFeatures (replicate 17 0) 0 ≡ Addressed.Refused Argument
   pub features : addressOf [] 64 (all 0) 0 ≡ Addressed.Refused Argument
-  pub missing : addressOf (0xC5 ∷ 0xF9 ∷ 0x70 ∷ 0x48 ∷ 0x80 ∷ 0x1B ∷ []) 62 (all 0) 0 ≡ Addressed.Refused Feature
+  pub without-avx : addressOf (0xC5 ∷ 0xF9 ∷ 0x70 ∷ 0x48 ∷ 0x80 ∷ 0x1B ∷ []) 62 (all 0) 0 ≡ Addressed.Refused Argument
+  pub missing : addressOf (0xC5 ∷ 0xF9 ∷ 0x70 ∷ 0x48 ∷ 0x80 ∷ 0x1B ∷ []) 0 (all 0) 0 ≡ Addressed.Refused Feature
 
 pub examples : Examples
 unfolding displacements bases indexes baseless wraps turns others tabulate addressOf operandOf displacementOf signedOf baseOf indexOf scaleOf decodeOf knownOf onHead onRow onTotal finishOf headOf prefixSize prefixOf fixedBits rows findIn matchesRow matchesW sibSize displacementSize checkOf wrongW wrongWidth wrongVvvv wrongBroadcast wrongZeroing enoughOf neededOf hasFeature instructionOf encodingOf firstOf thirdOf immediateOf widthOf elementOf digitsOf halfOf moveFrom controlOf
@@ -257,5 +258,6 @@ examples =
       fifteen = refl;
       seventeen = refl;
       features = refl;
+      without-avx = refl;
       missing = refl;
     }

@@ -1,11 +1,13 @@
 -- Section 7 of the rules: worked examples of byte maps, proved by computing.
 use Prim.Native.Nat.{ℕ, _+_, _*_}
 use mathlib.Core.Path.{_≡_, refl}
-use mathlib.Core.List.{List, [], _∷_, _++_}
+use mathlib.Core.List.{List, [], _∷_, _++_, map}
 use lib.ListN.{replicate, take, drop}
+use Rattle.seq.specs.Choice.{if_then_else_}
 use Rattle.seq.specs.Tabulate.{tabulate}
 use Rattle.isa.specs.Kinds.{registerBytes, maskCount, mapEntries, zeroEntry}
 use Rattle.isa.specs.Features.{hasFeature}
+use Rattle.isa.specs.FeatureSets.{numbers, isClosed}
 use Rattle.isa.specs.Operands.{widthOf, elementOf, digitsOf, halfOf, moveFrom, controlOf}
 use Rattle.isa.specs.Table.{rows, findIn, matchesRow, matchesW}
 use Rattle.isa.specs.declared.refusal.Refusal.the-variants.{Argument, Truncated, Unlisted, Unmappable, TooLong, BadEntry}
@@ -58,11 +60,16 @@ pub steps : builds list ∷ builds (take 9 list) ∷ builds (take 8 list) ∷ bu
 unfolding buildOf scannedOf buildSplit split mappable decodeOf knownOf onHead onRow onTotal finishOf headOf prefixSize prefixOf fixedBits rows findIn matchesRow matchesW sibSize displacementSize checkOf wrongW wrongWidth wrongVvvv wrongBroadcast wrongZeroing enoughOf neededOf hasFeature instructionOf encodingOf firstOf thirdOf immediateOf widthOf elementOf digitsOf halfOf moveFrom controlOf
 steps = refl
 
--- a list of as many bytes as may be, of one more, and that with wrong masks, a wrong map or wrong features
-pub order : buildOf (replicate 16384 0) 8 63 2048 ∷ buildOf (replicate 16385 0) 8 63 2048 ∷ buildOf (replicate 16385 0) 7 63 2048 ∷ buildOf (replicate 16385 0) 8 63 2047 ∷ buildOf (replicate 16385 0) 8 64 2048 ∷ []
-    ≡ built 0 (Answer.Refused Unlisted) ∷ built 0 (Answer.Refused TooLong) ∷ replicate 3 (built 0 (Answer.Refused Argument))
-unfolding buildOf scannedOf buildSplit split decodeOf knownOf prefixSize prefixOf headOf onHead
+-- a list of as many bytes as may be, of one more, and that with wrong masks, a wrong map, features over the limit or all features but AVX
+pub order : buildOf (replicate 16384 0) 8 63 2048 ∷ buildOf (replicate 16385 0) 8 63 2048 ∷ buildOf (replicate 16385 0) 7 63 2048 ∷ buildOf (replicate 16385 0) 8 63 2047 ∷ buildOf (replicate 16385 0) 8 64 2048 ∷ buildOf (replicate 16385 0) 8 62 2048 ∷ []
+    ≡ built 0 (Answer.Refused Unlisted) ∷ built 0 (Answer.Refused TooLong) ∷ replicate 4 (built 0 (Answer.Refused Argument))
+unfolding buildOf scannedOf buildSplit split decodeOf knownOf prefixSize prefixOf headOf onHead hasFeature
 order = refl
+
+-- request 6: the empty list under every number up to the feature limit. It is 1 where a feature lacks the one that it needs
+pub feature-sets : map (λ (f : ℕ). buildOf [] 8 f 2048 .answer) numbers ≡ map (λ (f : ℕ). if isClosed f then Answer.Done else Answer.Refused Argument) numbers
+unfolding buildOf scannedOf buildSplit split tabulate hasFeature
+feature-sets = refl
 
 -- ---- building: the entries. VPSHUFD turns xmm2 round into xmm1, and a second one xmm1 into xmm3
 

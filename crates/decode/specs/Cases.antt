@@ -180,8 +180,8 @@ starredCases =
 -- cases 13 to 16, VPERM2F128 by 21, and a destination that is its own source; R, B, X and V' in registers; the forms of displacement; an opcode in
 -- another map, and a broadcast quadword; then, in the order of rule 5.3: features over the limit and at it; fixed bits before an unknown opcode; EVEX
 -- with another W, and with its own; short bytes before a wrong width and before a missing feature; W, V' and vvvv; a wrong field before a missing
--- feature; the feature of a row, and the one that is not asked for besides; AVX512VL; each feature's bit by itself; and EVEX VUNPCKLPS, the one row
--- of document 01's that no case above has
+-- feature; the feature of a row, missing and there, with no feature besides but those that it needs; AVX512VL; AVX and AVX512F; and EVEX VUNPCKLPS,
+-- the one row of document 01's that no case above has
 unfoldable pub furtherCases : List Case
 furtherCases =
     case (0xC4 ∷ 0xE2 ∷ 0x69 ∷ 0x0D ∷ 0xCB ∷ []) 31 0 (ofThree vpermilpdRegister Vex Bits128 1 2 3 Immediate.Absent 5)
@@ -213,20 +213,20 @@ furtherCases =
     ∷ case (0x62 ∷ 0xF1 ∷ 0x7D ∷ 0x40 ∷ 0x70 ∷ 0xCA ∷ 0x1B ∷ []) 31 4 (wrong Vvvv)
     ∷ case (0xC5 ∷ 0xED ∷ 0x70 ∷ 0xCA ∷ 0x1B ∷ []) 0 4 (wrong Vvvv)
     ∷ case (0xC5 ∷ 0xFD ∷ 0x70 ∷ 0xCA ∷ 0x1B ∷ []) 1 5 (Refused Feature)
-    ∷ case (0xC5 ∷ 0xFD ∷ 0x70 ∷ 0xCA ∷ 0x1B ∷ []) 2 0 (byImmediate vpshufd Vex Bits256 1 (register 2) 0 false false 0x1B 5)
-    ∷ case (0x62 ∷ 0xF2 ∷ 0x6D ∷ 0x48 ∷ 0x8D ∷ 0xCB ∷ []) 4 5 (Refused Feature)
-    ∷ case (0x62 ∷ 0xF2 ∷ 0x6D ∷ 0x48 ∷ 0x8D ∷ 0xCB ∷ []) 16 0 (ofThree vpermb Evex Bits512 1 2 3 Immediate.Absent 6)
-    ∷ case (0x62 ∷ 0xF2 ∷ 0x6D ∷ 0x28 ∷ 0x8D ∷ 0xCB ∷ []) 16 5 (Refused Feature)
-    ∷ case (0x62 ∷ 0xF2 ∷ 0x6D ∷ 0x28 ∷ 0x8D ∷ 0xCB ∷ []) 24 0 (ofThree vpermb Evex Bits256 1 2 3 Immediate.Absent 6)
+    ∷ case (0xC5 ∷ 0xFD ∷ 0x70 ∷ 0xCA ∷ 0x1B ∷ []) 3 0 (byImmediate vpshufd Vex Bits256 1 (register 2) 0 false false 0x1B 5)
+    ∷ case (0x62 ∷ 0xF2 ∷ 0x6D ∷ 0x48 ∷ 0x8D ∷ 0xCB ∷ []) 5 5 (Refused Feature)
+    ∷ case (0x62 ∷ 0xF2 ∷ 0x6D ∷ 0x48 ∷ 0x8D ∷ 0xCB ∷ []) 21 0 (ofThree vpermb Evex Bits512 1 2 3 Immediate.Absent 6)
+    ∷ case (0x62 ∷ 0xF2 ∷ 0x6D ∷ 0x28 ∷ 0x8D ∷ 0xCB ∷ []) 21 5 (Refused Feature)
+    ∷ case (0x62 ∷ 0xF2 ∷ 0x6D ∷ 0x28 ∷ 0x8D ∷ 0xCB ∷ []) 29 0 (ofThree vpermb Evex Bits256 1 2 3 Immediate.Absent 6)
     ∷ case (0xC5 ∷ 0xF9 ∷ 0x70 ∷ 0xCA ∷ 0x1B ∷ []) 1 0 (byImmediate vpshufd Vex Bits128 1 (register 2) 0 false false 0x1B 5)
-    ∷ case (0x62 ∷ 0xF1 ∷ 0x7D ∷ 0x48 ∷ 0x70 ∷ 0xCA ∷ 0x1B ∷ []) 4 0 (byImmediate vpshufd Evex Bits512 1 (register 2) 0 false false 0x1B 7)
+    ∷ case (0x62 ∷ 0xF1 ∷ 0x7D ∷ 0x48 ∷ 0x70 ∷ 0xCA ∷ 0x1B ∷ []) 5 0 (byImmediate vpshufd Evex Bits512 1 (register 2) 0 false false 0x1B 7)
     ∷ case (0x62 ∷ 0xF1 ∷ 0x6C ∷ 0x48 ∷ 0x14 ∷ 0xCB ∷ []) 31 0 (ofThree vunpcklps Evex Bits512 1 2 3 Immediate.Absent 6)
     ∷ []
 
 -- request 1, cases 17 to 30: VUNPCKHPS; VPERMILPS by 1B, which moves as VPSHUFD by 1B; VPSHUFB with either W, with b, and without AVX512BW; VUNPCKLPD
 -- with either W under VEX, and by W under EVEX; VUNPCKHPD; VPERMILPS by a register, and by a broadcast control; VPSHUFB under a mask. Then other widths
--- and encodings; W, vvvv and EVEX W of VPERMILPS; EVEX W of VUNPCKHPS; broadcasts; and VPSHUFB's features: AVX, AVX2 at 256 bits, AVX512BW by itself,
--- and AVX512VL with it at 128 and 256 bits
+-- and encodings; W, vvvv and EVEX W of VPERMILPS; EVEX W of VUNPCKHPS; broadcasts; and VPSHUFB's features: AVX, AVX2 at 256 bits, AVX512BW, and
+-- AVX512VL with it at 128 and 256 bits
 unfoldable pub requestedCases : List Case
 requestedCases =
     moving (0xC5 ∷ 0xE8 ∷ 0x15 ∷ 0xCB ∷ []) 63 (ofThree vunpckhps Vex Bits128 1 2 3 Immediate.Absent 4) (dword 2 2 ++ dword 3 2 ++ dword 2 3 ++ dword 3 3 ++ cleared 48)
@@ -259,12 +259,12 @@ requestedCases =
     ∷ case (0x62 ∷ 0xF1 ∷ 0xED ∷ 0x58 ∷ 0x15 ∷ 0x08 ∷ []) 63 0 (repeating vunpckhpd 1 2 8 6)
     ∷ case (0xC4 ∷ 0xE2 ∷ 0x69 ∷ 0x00 ∷ 0xCB ∷ []) 1 0 (ofThree vpshufb Vex Bits128 1 2 3 Immediate.Absent 5)
     ∷ case (0xC4 ∷ 0xE2 ∷ 0x6D ∷ 0x00 ∷ 0xCB ∷ []) 1 5 (Refused Feature)
-    ∷ case (0xC4 ∷ 0xE2 ∷ 0x6D ∷ 0x00 ∷ 0xCB ∷ []) 2 0 (ofThree vpshufb Vex Bits256 1 2 3 Immediate.Absent 5)
-    ∷ case (0x62 ∷ 0xF2 ∷ 0x6D ∷ 0x48 ∷ 0x00 ∷ 0xCB ∷ []) 32 0 (ofThree vpshufb Evex Bits512 1 2 3 Immediate.Absent 6)
-    ∷ case (0x62 ∷ 0xF2 ∷ 0x6D ∷ 0x08 ∷ 0x00 ∷ 0xCB ∷ []) 32 5 (Refused Feature)
-    ∷ case (0x62 ∷ 0xF2 ∷ 0x6D ∷ 0x08 ∷ 0x00 ∷ 0xCB ∷ []) 40 0 (ofThree vpshufb Evex Bits128 1 2 3 Immediate.Absent 6)
-    ∷ case (0x62 ∷ 0xF2 ∷ 0x6D ∷ 0x28 ∷ 0x00 ∷ 0xCB ∷ []) 32 5 (Refused Feature)
-    ∷ case (0x62 ∷ 0xF2 ∷ 0x6D ∷ 0x28 ∷ 0x00 ∷ 0xCB ∷ []) 40 0 (ofThree vpshufb Evex Bits256 1 2 3 Immediate.Absent 6)
+    ∷ case (0xC4 ∷ 0xE2 ∷ 0x6D ∷ 0x00 ∷ 0xCB ∷ []) 3 0 (ofThree vpshufb Vex Bits256 1 2 3 Immediate.Absent 5)
+    ∷ case (0x62 ∷ 0xF2 ∷ 0x6D ∷ 0x48 ∷ 0x00 ∷ 0xCB ∷ []) 37 0 (ofThree vpshufb Evex Bits512 1 2 3 Immediate.Absent 6)
+    ∷ case (0x62 ∷ 0xF2 ∷ 0x6D ∷ 0x08 ∷ 0x00 ∷ 0xCB ∷ []) 37 5 (Refused Feature)
+    ∷ case (0x62 ∷ 0xF2 ∷ 0x6D ∷ 0x08 ∷ 0x00 ∷ 0xCB ∷ []) 45 0 (ofThree vpshufb Evex Bits128 1 2 3 Immediate.Absent 6)
+    ∷ case (0x62 ∷ 0xF2 ∷ 0x6D ∷ 0x28 ∷ 0x00 ∷ 0xCB ∷ []) 37 5 (Refused Feature)
+    ∷ case (0x62 ∷ 0xF2 ∷ 0x6D ∷ 0x28 ∷ 0x00 ∷ 0xCB ∷ []) 45 0 (ofThree vpshufb Evex Bits256 1 2 3 Immediate.Absent 6)
     ∷ []
 
 -- request 3, cases 31 to 44: the fixed bits and W by themselves, as the other fields are in the cases above; then two wrong fields at once, every pair
@@ -297,6 +297,30 @@ reservedCases =
     ∷ case (0x62 ∷ 0xF1 ∷ 0x75 ∷ 0xF8 ∷ 0x70 ∷ 0xCA ∷ 0x1B ∷ []) 64 1 (Refused Argument)
     ∷ []
 
+-- request 6, cases 45 to 54: each feature without the one that it needs, and AVX512VL alone; all but AVX512F, and all but AVX; no feature at all, which
+-- passes; and a set that is complete. Then, under sets that do not pass, what would be 2, 3, 4 or 5; numbers over the limit; and no bytes with no feature
+unfoldable pub featureSetCases : List Case
+featureSetCases =
+    case (0xC5 ∷ 0xFD ∷ 0x70 ∷ 0xCA ∷ 0x1B ∷ []) 2 1 (Refused Argument)
+    ∷ case (0x62 ∷ 0xF1 ∷ 0x7D ∷ 0x48 ∷ 0x70 ∷ 0xCA ∷ 0x1B ∷ []) 4 1 (Refused Argument)
+    ∷ case (0xC5 ∷ 0xF9 ∷ 0x70 ∷ 0xCA ∷ 0x1B ∷ []) 8 1 (Refused Argument)
+    ∷ case (0x62 ∷ 0xF1 ∷ 0x7D ∷ 0x28 ∷ 0x70 ∷ 0xCA ∷ 0x1B ∷ []) 9 1 (Refused Argument)
+    ∷ case (0x62 ∷ 0xF2 ∷ 0x6D ∷ 0x48 ∷ 0x8D ∷ 0xCB ∷ []) 17 1 (Refused Argument)
+    ∷ case (0x62 ∷ 0xF2 ∷ 0x6D ∷ 0x48 ∷ 0x00 ∷ 0xCB ∷ []) 33 1 (Refused Argument)
+    ∷ case (0xC5 ∷ 0xF9 ∷ 0x70 ∷ 0xCA ∷ 0x1B ∷ []) 59 1 (Refused Argument)
+    ∷ case (0xC5 ∷ 0xF9 ∷ 0x70 ∷ 0xCA ∷ 0x1B ∷ []) 62 1 (Refused Argument)
+    ∷ case (0xC5 ∷ 0xF9 ∷ 0x70 ∷ 0xCA ∷ 0x1B ∷ []) 0 5 (Refused Feature)
+    ∷ case (0x62 ∷ 0xF1 ∷ 0x7D ∷ 0x28 ∷ 0x70 ∷ 0xCA ∷ 0x1B ∷ []) 13 0 (byImmediate vpshufd Evex Bits256 1 (register 2) 0 false false 0x1B 7)
+    ∷ case [] 2 1 (Refused Argument)
+    ∷ case (0xC5 ∷ 0xF9 ∷ 0x70 ∷ 0xCA ∷ []) 16 1 (Refused Argument)
+    ∷ case (0x90 ∷ []) 32 1 (Refused Argument)
+    ∷ case (0x62 ∷ 0xF9 ∷ 0x7D ∷ 0x48 ∷ 0x70 ∷ 0xCA ∷ 0x1B ∷ []) 12 1 (Refused Argument)
+    ∷ case (0x62 ∷ 0xF2 ∷ 0x6D ∷ 0x48 ∷ 0x8D ∷ 0xCB ∷ []) 41 1 (Refused Argument)
+    ∷ case (0xC5 ∷ 0xF9 ∷ 0x70 ∷ 0xCA ∷ 0x1B ∷ []) 65 1 (Refused Argument)
+    ∷ case (0xC5 ∷ 0xF9 ∷ 0x70 ∷ 0xCA ∷ 0x1B ∷ []) 4294967295 1 (Refused Argument)
+    ∷ case [] 0 2 (Refused Truncated)
+    ∷ []
+
 -- every case decodes as it says, and its answer has its number
 abbrev pub Decodes : List Case → Type 0
 Decodes cases =
@@ -327,3 +351,7 @@ requested-decode = (refl, refl)
 pub reserved-decode : Decodes reservedCases
 unfolding reservedCases decodeOf knownOf onHead onRow onTotal finishOf headOf prefixSize prefixOf fixedBits rows findIn matchesRow matchesW sibSize displacementSize checkOf wrongW wrongWidth wrongVvvv wrongBroadcast wrongZeroing enoughOf neededOf hasFeature instructionOf encodingOf firstOf thirdOf immediateOf widthOf elementOf digitsOf halfOf moveFrom controlOf
 reserved-decode = (refl, refl)
+
+pub feature-sets-decode : Decodes featureSetCases
+unfolding featureSetCases decodeOf knownOf onHead onRow onTotal finishOf headOf prefixSize prefixOf fixedBits rows findIn matchesRow matchesW sibSize displacementSize checkOf wrongW wrongWidth wrongVvvv wrongBroadcast wrongZeroing enoughOf neededOf hasFeature instructionOf encodingOf firstOf thirdOf immediateOf widthOf elementOf digitsOf halfOf moveFrom controlOf
+feature-sets-decode = (refl, refl)

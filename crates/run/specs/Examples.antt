@@ -1,11 +1,14 @@
 -- Section 6 of the rules: runs by their numbers, proved by computing. The list is VPSHUFD (5 bytes), VUNPCKLPS (4 bytes) and a VPSHUFD that wants
--- memory; it is run under each budget, and cut off within an instruction and behind one. Then the order of answers 1 and 8 and the steps.
+-- memory; it is run under each budget, and cut off within an instruction and behind one. Then the order of answers 1 and 8 and the steps, and the sets of features.
 use Prim.Native.Nat.{ℕ, _*_}
 use mathlib.Core.Path.{_≡_, refl}
-use mathlib.Core.List.{List, [], _∷_}
+use mathlib.Core.List.{List, [], _∷_, map}
 use lib.ListN.{replicate, take}
+use Rattle.seq.specs.Choice.{if_then_else_}
+use Rattle.seq.specs.Tabulate.{tabulate}
 use Rattle.isa.specs.Kinds.{codeLimit}
 use Rattle.isa.specs.Features.{hasFeature}
+use Rattle.isa.specs.FeatureSets.{numbers, isClosed}
 use Rattle.isa.specs.Operands.{widthOf, elementOf, digitsOf, halfOf, moveFrom, controlOf}
 use Rattle.isa.specs.Table.{rows, findIn, matchesRow, matchesW}
 use Rattle.isa.specs.declared.refusal.Refusal.the-variants.{Argument, Truncated, MemoryLength, TooLong}
@@ -47,8 +50,13 @@ steps = refl
 pub budget : 4 * wholeBudget ≡ codeLimit
 budget = refl
 
--- with a budget of 0: a list of as many bytes as may be, of one more, and that with a wrong file, wrong masks or wrong features
-pub order : runOf (replicate 16384 0) 2048 8 63 0 ∷ runOf (replicate 16385 0) 2048 8 63 0 ∷ runOf (replicate 16385 0) 2047 8 63 0 ∷ runOf (replicate 16385 0) 2048 7 63 0 ∷ runOf (replicate 16385 0) 2048 8 64 0 ∷ []
-    ≡ ran 0 0 Answer.Done ∷ ran 0 0 (Answer.Refused TooLong) ∷ replicate 3 (ran 0 0 (Answer.Refused Argument))
-unfolding runOf steppedRun runSplit split
+-- with a budget of 0: a list of as many bytes as may be, of one more, and that with a wrong file, wrong masks, features over the limit or all features but AVX
+pub order : runOf (replicate 16384 0) 2048 8 63 0 ∷ runOf (replicate 16385 0) 2048 8 63 0 ∷ runOf (replicate 16385 0) 2047 8 63 0 ∷ runOf (replicate 16385 0) 2048 7 63 0 ∷ runOf (replicate 16385 0) 2048 8 64 0 ∷ runOf (replicate 16385 0) 2048 8 62 0 ∷ []
+    ≡ ran 0 0 Answer.Done ∷ ran 0 0 (Answer.Refused TooLong) ∷ replicate 4 (ran 0 0 (Answer.Refused Argument))
+unfolding runOf steppedRun runSplit split hasFeature
 order = refl
+
+-- request 6: the empty list, with a budget of 0, under every number up to the feature limit. It is 1 where a feature lacks the one that it needs
+pub feature-sets : map (λ (f : ℕ). runOf [] 2048 8 f 0 .answer) numbers ≡ map (λ (f : ℕ). if isClosed f then Answer.Done else Answer.Refused Argument) numbers
+unfolding runOf steppedRun runSplit split tabulate hasFeature
+feature-sets = refl
