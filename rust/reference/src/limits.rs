@@ -33,12 +33,20 @@ pub mod feature {
     pub const ALL: u32 = 63;
 }
 
-/// Answer 1 for the features.
+/// Answer 1 for the features: a number with an unknown bit, or a set that no processor has.
 pub(crate) fn check_features(features: u32) -> Result<(), Refusal> {
-    if features > feature::ALL {
+    if features > feature::ALL || lacks_another(features) {
         return Err(Refusal::Size);
     }
     Ok(())
+}
+
+/// Request 6: whether there is any other bit without AVX, or one of the three that extend AVX512F
+/// without AVX512F.
+fn lacks_another(features: u32) -> bool {
+    let has = |bits: u32| features & bits != 0;
+    let extends_f = feature::AVX512VL | feature::AVX512_VBMI | feature::AVX512BW;
+    (has(!feature::AVX) && !has(feature::AVX)) || (has(extends_f) && !has(feature::AVX512F))
 }
 
 /// Answer 1 for opmasks and features.

@@ -7,7 +7,7 @@ pub(crate) const DONE: u32 = 0;
 
 #[derive(Debug, Clone, Copy, PartialEq, Eq)]
 pub(crate) enum Refusal {
-    /// A buffer has the wrong size, the features exceed 63, or a place is beyond the list.
+    /// A buffer has the wrong size, a place is beyond the list, or no processor has the features.
     Size,
     /// The bytes end inside an instruction.
     Short,

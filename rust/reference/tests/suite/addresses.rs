@@ -291,16 +291,17 @@ fn register_forms_have_no_address() {
 }
 
 #[test]
-fn sixteen_registers_and_known_features_come_first() {
+fn sixteen_registers_and_possible_features_come_first() {
     let memory_form: &[u8] = &[0xC5, 0xE8, 0x14, 0x08];
     let codes = [memory_form, &[], &[0x90], &[0x62], &[0xC5, 0xE9, 0x70, 8]];
     for code in codes {
         for count in [0, 1, 8, 15, 17, 32] {
             let registers = vec![7; count];
             assert_eq!(address(code, ALL, &registers, 0), refused(1, 0));
+            assert_eq!(address(code, 62, &registers, 0), refused(1, 0));
             assert_eq!(address(code, 64, &registers, 0), refused(1, 0));
         }
-        for features in [64, 65, 1 << 31, u32::MAX] {
+        for features in [2, 4, 9, 62, 64, 65, 1 << 31, u32::MAX] {
             assert_eq!(address(code, features, &registers(), 0), refused(1, 0));
         }
     }
@@ -331,7 +332,7 @@ fn refusals_are_those_of_decoding() {
     }
     let wide: &[u8] = &[0xC5, 0xFD, 0x70, 0x08, 0x1B];
     assert_eq!(address(wide, 1, &registers(), 0), refused(5, 0));
-    assert_eq!(address(wide, 2, &registers(), 0), at(register(0)));
+    assert_eq!(address(wide, 3, &registers(), 0), at(register(0)));
 }
 
 /// What decoding says of accepted instructions: whether there is an operand in memory.

@@ -1,7 +1,7 @@
 //! Inputs of every kind: no panic, and a refusal changes nothing.
 
 use crate::sample::Sample;
-use crate::support::{Random, ALL};
+use crate::support::{Random, ALL, SETS};
 use reference::{
     address, apply, build, compose, decode, listing, reserved_field, run, step, Addressed, Decoded,
     Field, Listed,
@@ -36,10 +36,12 @@ fn code(random: &mut Random) -> Vec<u8> {
     code
 }
 
+/// Mostly sets that pass.
 fn features(random: &mut Random) -> u32 {
     match random.below(8) {
         0 => random.word() as u32,
         1 => random.below(65) as u32,
+        2 | 3 => random.pick(&SETS),
         _ => ALL,
     }
 }
@@ -63,6 +65,7 @@ fn decoding_and_stepping() {
         let features = features(&mut random);
         let masks = masks(&mut random);
         let decoded = decode(&code, features);
+        assert_eq!(decoded.status != 1, SETS.contains(&features));
         check_reason(decoded.status, decoded.reason);
         let field = reserved_field(&code, features);
         assert_eq!(field.map_or(0, Field::number), decoded.reason);

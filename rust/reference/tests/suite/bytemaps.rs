@@ -213,7 +213,9 @@ fn building_refuses_in_order() {
     for code in [&[][..], &VUNPCKLPS, &long, &[0x90]] {
         refused(code, &[0; 7], ALL, built(0, 1));
         refused(code, &[0; 9], ALL, built(0, 1));
-        refused(code, &OPEN, 64, built(0, 1));
+        for features in [2, 4, 9, 62, 64] {
+            refused(code, &OPEN, features, built(0, 1));
+        }
         for size in [0, 2_047, 2_049] {
             let mut map = vec![3; size];
             assert_eq!(build(code, &OPEN, ALL, &mut map), built(0, 1));
@@ -244,7 +246,7 @@ fn a_steps_own_refusals_come_before_7() {
         reserved(0, 5),
     );
     refused(&vpermb, &OPEN, 15, built(0, 5));
-    refused(&vpermb, &OPEN, 16, built(0, 7));
+    refused(&vpermb, &OPEN, 21, built(0, 7));
     let vpshufb = [0x62, 0xF2, 0x6D, 0x48, 0x00, 0xCB];
     refused(&vpshufb[..5], &OPEN, ALL, built(0, 2));
     refused(
@@ -254,7 +256,7 @@ fn a_steps_own_refusals_come_before_7() {
         reserved(0, 5),
     );
     refused(&vpshufb, &OPEN, 31, built(0, 5));
-    refused(&vpshufb, &OPEN, 32, built(0, 7));
+    refused(&vpshufb, &OPEN, 37, built(0, 7));
 }
 
 #[test]

@@ -1,8 +1,8 @@
 //! Exactly the listed encodings are accepted, with the right operands.
 
 use crate::sample::Sample;
-use crate::support::{Random, ALL};
-use reference::{decode, reserved_field, Decoded, Field};
+use crate::support::{refusal, Random, ALL, SETS};
+use reference::{decode, reserved_field, Field};
 
 fn status(code: &[u8]) -> u32 {
     decode(code, ALL).status
@@ -27,12 +27,9 @@ fn all_needed_features_and_no_others_are_needed() {
     for _ in 0..2_000 {
         let sample = Sample::random(&mut random);
         let code = sample.encode();
-        let missing = Decoded {
-            status: 5,
-            ..Decoded::default()
-        };
-        for features in 0..=ALL {
+        for features in SETS {
             let enough = features & sample.needed() == sample.needed();
+            let missing = refusal(5, 0);
             let expected = if enough { sample.expected() } else { missing };
             assert_eq!(decode(&code, features), expected, "{sample:?}");
         }

@@ -77,7 +77,7 @@ fn vpshufb_has_either_w_and_needs_avx512bw() {
     for q in [0x6D, 0xED] {
         let code = [0x62, 0xF2, q, 0x48, 0x00, 0xCB];
         assert_eq!(decode(&code, ALL), two_sources_512(10));
-        assert_eq!(decode(&code, 32), two_sources_512(10));
+        assert_eq!(decode(&code, 37), two_sources_512(10));
         assert_eq!(decode(&code, 31), refusal(5, 0));
     }
 }

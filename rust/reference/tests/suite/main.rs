@@ -1,10 +1,11 @@
-//! Tests of the reference against document 01, requests 1, 3, 4 and 5 and the manual pages.
+//! Tests of the reference against document 01, requests 1, 3, 4, 5 and 6 and the manual pages.
 
 mod addresses;
 mod any_input;
 mod bytemaps;
 mod case_table;
 mod encodings;
+mod features;
 mod lane_permutes;
 mod listings;
 mod manual;

@@ -32,16 +32,17 @@ fn sizes_and_features_come_first() {
         for count in [0, 7, 9] {
             assert_eq!(step_sized(code, 2_048, &vec![0; count], ALL, &[]), 1);
         }
-        for features in [64, 65, 1 << 31, u32::MAX] {
+        for features in [2, 4, 9, 32, 33, 62, 64, 65, 1 << 31, u32::MAX] {
             assert_eq!(step_status(code, features, &[]), 1);
             assert_eq!(decode(code, features).status, 1);
             assert_eq!(reserved_field(code, features), None);
         }
     }
     assert_eq!(step_status(&VPSHUFD, ALL, &[]), 0);
-    // AVX512BW is a feature: with it alone, another one is missing.
-    assert_eq!(step_status(&VPSHUFD, 32, &[]), 5);
-    assert_eq!(step_status(&VPSHUFD, 33, &[]), 0);
+    // AVX512BW is a feature, but not without AVX and AVX512F.
+    assert_eq!(step_status(&VPSHUFD, 33, &[]), 1);
+    assert_eq!(step_status(&VPSHUFD, 36, &[]), 1);
+    assert_eq!(step_status(&VPSHUFD, 37, &[]), 0);
 }
 
 #[test]
@@ -139,21 +140,23 @@ fn features_come_before_memory() {
     assert_eq!(step_status(&VPSHUFD, ALL, &[1]), 6);
     assert_eq!(step_status(&BROADCAST, 0, &[]), 5);
     assert_eq!(step_status(&BROADCAST, ALL, &[]), 6);
-    // 256-bit VEX VPSHUFD needs AVX2 and not AVX.
+    // 256-bit VEX VPSHUFD needs AVX2, and AVX alone is too little.
     let wide = [0xC5, 0xFD, 0x70, 0xCA, 0x1B];
     assert_eq!(step_status(&wide, ALL - 2, &[]), 5);
-    assert_eq!(step_status(&wide, 2, &[]), 0);
-    // 512-bit VPERMB needs AVX512_VBMI and nothing else.
+    assert_eq!(step_status(&wide, 1, &[]), 5);
+    assert_eq!(step_status(&wide, 3, &[]), 0);
+    // 512-bit VPERMB needs AVX512_VBMI, and nothing but what that comes with.
     let vpermb = [0x62, 0xF2, 0x6D, 0x48, 0x8D, 0xCB];
     assert_eq!(step_status(&vpermb, ALL - 16, &[]), 5);
-    assert_eq!(step_status(&vpermb, 16, &[]), 0);
-    // 512-bit VPSHUFB needs AVX512BW and nothing else, the 256-bit VEX form AVX2 and not AVX.
+    assert_eq!(step_status(&vpermb, 21, &[]), 0);
+    // 512-bit VPSHUFB needs AVX512BW in the same way, the 256-bit VEX form AVX2.
     let vpshufb = [0x62, 0xF2, 0x6D, 0x48, 0x00, 0xCB];
     assert_eq!(step_status(&vpshufb, ALL - 32, &[]), 5);
-    assert_eq!(step_status(&vpshufb, 32, &[]), 0);
+    assert_eq!(step_status(&vpshufb, 37, &[]), 0);
     let wide = [0xC4, 0xE2, 0x6D, 0x00, 0xCB];
     assert_eq!(step_status(&wide, ALL - 2, &[]), 5);
-    assert_eq!(step_status(&wide, 2, &[]), 0);
+    assert_eq!(step_status(&wide, 1, &[]), 5);
+    assert_eq!(step_status(&wide, 3, &[]), 0);
 }
 
 #[test]

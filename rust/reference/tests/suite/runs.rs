@@ -93,7 +93,10 @@ fn sizes_come_before_the_list_limit() {
             let mut file = varied_file();
             assert_eq!(run(code, &mut file, &[0; 7], ALL, budget), ran(0, 0, 1));
             assert_eq!(run(code, &mut file, &[0; 9], ALL, budget), ran(0, 0, 1));
-            assert_eq!(run(code, &mut file, &OPEN, 64, budget), ran(0, 0, 1));
+            for features in [2, 4, 9, 62, 64] {
+                let refused = run(code, &mut file, &OPEN, features, budget);
+                assert_eq!(refused, ran(0, 0, 1));
+            }
             assert_eq!(file, varied_file());
         }
     }

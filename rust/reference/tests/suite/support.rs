@@ -1,11 +1,28 @@
 //! Register files, a random number source and shared checks.
 
+use reference::limits::feature::{AVX, AVX2, AVX512F};
+use reference::limits::feature::{AVX512BW as BW, AVX512VL as VL, AVX512_VBMI as VBMI};
 use reference::limits::{FILE_SIZE, REGISTER_SIZE};
 use reference::{step, Decoded, Stepped};
 
 pub const ALL: u32 = 63;
 /// All features of document 01, which has no AVX512BW, and all features.
 pub const EITHER: [u32; 2] = [31, ALL];
+/// The sets of features that pass (request 6): none, AVX with or without AVX2, and AVX512F with each
+/// of the three that need it.
+#[rustfmt::skip] // without AVX2 and with it
+pub const SETS: [u32; 19] = [
+    0, AVX, AVX | AVX2,
+    F, F | AVX2,
+    F | VL, F | VL | AVX2,
+    F | VBMI, F | VBMI | AVX2,
+    F | VBMI | VL, F | VBMI | VL | AVX2,
+    F | BW, F | BW | AVX2,
+    F | BW | VL, F | BW | VL | AVX2,
+    F | BW | VBMI, F | BW | VBMI | AVX2,
+    F | BW | VBMI | VL, F | BW | VBMI | VL | AVX2,
+];
+const F: u32 = AVX | AVX512F;
 /// Opmasks that let every element through.
 pub const OPEN: [u64; 8] = [u64::MAX; 8];
 
