@@ -53,14 +53,15 @@ pub const BUILD_FAULTS: [(Fault, u32); 7] = [
     (Fault::Control, 7),
 ];
 
-/// All features, and sets with which some instructions are accepted and others not.
+/// All features, and sets that pass with which some instructions are accepted and others not.
 #[rustfmt::skip] // on one line
 pub const FEATURE_SETS: [u32; 9] = [
-    ALL, ALL - 32, ALL - 16, ALL - 8, ALL - 4, ALL - 2, ALL - 1, 3, 12,
+    ALL, ALL - 32, ALL - 16, ALL - 8, ALL - 2, 1, 3, 5, 13,
 ];
 
 impl Fault {
-    /// An instruction with this fault and no other, or nothing if these features have none.
+    /// An instruction with this fault and no other, or nothing if these features, which have to pass,
+    /// have none.
     pub fn encode(self, features: u32, random: &mut Random) -> Option<Bad> {
         let mix = match self {
             Fault::NoRow => return Some(without_reason(no_row(random))),

@@ -79,7 +79,7 @@ impl Form {
         }
     }
 
-    /// Whether `features` have all that this form needs.
+    /// Whether `features`, a set that passes, have all that this form needs.
     pub fn is_enabled(self, features: u32) -> bool {
         self.features() & !features == 0
     }

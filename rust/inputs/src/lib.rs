@@ -8,6 +8,7 @@
 pub mod addresses;
 pub mod encoding;
 pub mod faults;
+pub mod feature_sets;
 mod fields;
 pub mod form;
 pub mod limits;

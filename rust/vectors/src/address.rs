@@ -21,7 +21,7 @@ pub struct Address {
     pub code: Vec<u8>,
 }
 
-pub const KINDS: [Kind<Address>; 20] = [
+pub const KINDS: [Kind<Address>; 21] = [
     ("any operand", 5_000, any_operand),
     ("one byte of displacement", 2_500, near),
     ("relative to the next one", 1_500, relative),
@@ -29,8 +29,9 @@ pub const KINDS: [Kind<Address>; 20] = [
     ("accepted", 1_500, accepted),
     ("bytes behind", 700, bytes_behind),
     ("number of registers", 700, register_count),
-    ("features over 63", 400, wrong_features),
-    ("any features", 1_000, any_features),
+    ("impossible features", 450, impossible_features),
+    ("features over 63", 200, unknown_features),
+    ("any features", 750, any_features),
     ("one bit flipped", 1_500, flipped),
     ("one byte replaced", 500, replaced),
     ("cut", 500, cut),
@@ -119,8 +120,14 @@ fn register_count(maker: &mut Maker) -> Address {
     Address { registers, ..input }
 }
 
-fn wrong_features(maker: &mut Maker) -> Address {
-    let features = maker.wrong_features();
+fn impossible_features(maker: &mut Maker) -> Address {
+    let features = maker.impossible_features();
+    let input = any_operand(maker);
+    Address { features, ..input }
+}
+
+fn unknown_features(maker: &mut Maker) -> Address {
+    let features = maker.unknown_features();
     let input = any_operand(maker);
     Address { features, ..input }
 }

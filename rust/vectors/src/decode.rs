@@ -15,11 +15,12 @@ pub struct Decode {
     pub code: Vec<u8>,
 }
 
-pub const KINDS: [Kind<Decode>; 15] = [
+pub const KINDS: [Kind<Decode>; 16] = [
     ("accepted", 5_700, accepted),
     ("bytes behind", 1_500, bytes_behind),
-    ("any features", 2_500, any_features),
-    ("features over 63", 600, wrong_features),
+    ("any features", 2_200, any_features),
+    ("impossible features", 500, impossible_features),
+    ("features over 63", 400, unknown_features),
     ("one bit flipped", 3_000, flipped),
     ("one byte replaced", 1_000, replaced),
     ("cut", 1_000, cut),
@@ -89,7 +90,18 @@ fn any_features(maker: &mut Maker) -> Decode {
     }
 }
 
-fn wrong_features(maker: &mut Maker) -> Decode {
+fn impossible_features(maker: &mut Maker) -> Decode {
+    let features = maker.impossible_features();
+    under(features, maker)
+}
+
+fn unknown_features(maker: &mut Maker) -> Decode {
+    let features = maker.unknown_features();
+    under(features, maker)
+}
+
+/// Code of every kind, which does not count under wrong features.
+fn under(features: u32, maker: &mut Maker) -> Decode {
     let mut code = maker.accepted();
     match maker.random.below(4) {
         0 => maker.cut(&mut code),
@@ -97,7 +109,6 @@ fn wrong_features(maker: &mut Maker) -> Decode {
         2 => code = maker.fault(Fault::SeveralReserved),
         _ => {}
     }
-    let features = maker.wrong_features();
     Decode { features, code }
 }
 

@@ -33,8 +33,8 @@ pub struct Run<'a>(pub &'a ListInput);
 pub struct Build<'a>(pub &'a ListInput);
 pub struct Listing<'a>(pub &'a ListInput);
 
-pub const KINDS: [Kind<ListInput>; 24] = [
-    ("accepted", 4_810, accepted),
+pub const KINDS: [Kind<ListInput>; 25] = [
+    ("accepted", 4_560, accepted),
     ("short bytes", 1_500, short),
     ("no row", 1_200, no_row),
     ("reserved field", 1_500, reserved),
@@ -45,7 +45,8 @@ pub const KINDS: [Kind<ListInput>; 24] = [
     ("control in a register", 2_000, control),
     ("one bit flipped", 1_500, flipped),
     ("any bytes", 200, any_bytes),
-    ("features over 63", 500, wrong_features),
+    ("impossible features", 450, impossible_features),
+    ("features over 63", 300, unknown_features),
     ("sizes", 1_000, wrong_sizes),
     ("place past the end", 400, wrong_place),
     ("number of opmasks", 400, wrong_masks),
@@ -267,8 +268,14 @@ fn any_bytes(maker: &mut Maker) -> ListInput {
     ListInput::new(code, features, maker)
 }
 
-fn wrong_features(maker: &mut Maker) -> ListInput {
-    let features = maker.wrong_features();
+fn impossible_features(maker: &mut Maker) -> ListInput {
+    let features = maker.impossible_features();
+    let input = accepted(maker);
+    ListInput { features, ..input }
+}
+
+fn unknown_features(maker: &mut Maker) -> ListInput {
+    let features = maker.unknown_features();
     let input = accepted(maker);
     ListInput { features, ..input }
 }

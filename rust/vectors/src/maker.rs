@@ -3,8 +3,9 @@
 use crate::layout::{Span, CODE_ROOM, MASKS_ROOM, MOST};
 use inputs::encoding::{Prefix, Row, ROWS};
 use inputs::faults::Fault;
+use inputs::feature_sets;
 use inputs::form::Form;
-use inputs::limits::features::{ALL, SETS};
+use inputs::limits::features::ALL;
 use inputs::limits::{CODE_LIMIT, FILE_SIZE, GPR_COUNT, MASK_COUNT};
 use inputs::operand::Operand;
 use inputs::random::Random;
@@ -94,19 +95,24 @@ impl Maker {
         self.random.bytes(count)
     }
 
-    /// Features that there are.
+    /// A set of features that passes.
     pub fn features(&mut self) -> u32 {
-        self.random.below(SETS) as u32
+        feature_sets::possible(&mut self.random)
+    }
+
+    /// A set that no processor has.
+    pub fn impossible_features(&mut self) -> u32 {
+        feature_sets::impossible(&mut self.random)
     }
 
     /// A feature number over 63.
+    pub fn unknown_features(&mut self) -> u32 {
+        feature_sets::unknown(&mut self.random)
+    }
+
+    /// Either of these two.
     pub fn wrong_features(&mut self) -> u32 {
-        match self.random.below(4) {
-            0 => ALL + 1 + self.random.below(8) as u32,
-            1 => 1 << (6 + self.random.below(26)),
-            2 => u32::MAX - self.random.below(SETS) as u32,
-            _ => (self.random.number() as u32).max(ALL + 1),
-        }
+        feature_sets::refused(&mut self.random)
     }
 
     /// The start of a part of a pool, any of the pool's 65,536 places.

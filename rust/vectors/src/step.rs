@@ -19,15 +19,16 @@ pub struct Step {
     pub code: Vec<u8>,
 }
 
-pub const KINDS: [Kind<Step>; 19] = [
+pub const KINDS: [Kind<Step>; 20] = [
     ("accepted", 7_600, accepted),
     ("few registers", 2_000, few_registers),
     ("bytes behind", 800, bytes_behind),
     ("length of memory", 1_800, memory_length),
     ("size of the file", 600, file_size),
     ("number of opmasks", 500, mask_count),
-    ("features over 63", 500, wrong_features),
-    ("any features", 1_500, any_features),
+    ("impossible features", 450, impossible_features),
+    ("features over 63", 300, unknown_features),
+    ("any features", 1_250, any_features),
     ("one bit flipped", 1_500, flipped),
     ("one byte replaced", 500, replaced),
     ("cut", 500, cut),
@@ -121,8 +122,14 @@ fn mask_count(maker: &mut Maker) -> Step {
     Step { masks, ..input }
 }
 
-fn wrong_features(maker: &mut Maker) -> Step {
-    let features = maker.wrong_features();
+fn impossible_features(maker: &mut Maker) -> Step {
+    let features = maker.impossible_features();
+    let input = accepted(maker);
+    Step { features, ..input }
+}
+
+fn unknown_features(maker: &mut Maker) -> Step {
+    let features = maker.unknown_features();
     let input = accepted(maker);
     Step { features, ..input }
 }

@@ -1,6 +1,7 @@
 //! The stored vectors, and the inputs in them.
 
 mod addresses;
+mod features;
 mod listings;
 mod reasons;
 mod samples;
