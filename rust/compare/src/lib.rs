@@ -13,5 +13,5 @@ pub mod mapping;
 pub mod running;
 pub mod stepping;
 
-pub use inputs::{addresses, encoding, faults, form, limits, lists, operand, random};
-pub use inputs::{reserved, state, tally};
+pub use inputs::{addresses, encoding, faults, feature_sets, form, limits, lists, operand};
+pub use inputs::{random, reserved, state, tally};

@@ -3,8 +3,9 @@
 
 use compare::addressing::{Case, Comparison};
 use compare::encoding::Prefix;
+use compare::feature_sets;
 use compare::form::Form;
-use compare::limits::features::{ALL, SETS};
+use compare::limits::features::ALL;
 use compare::limits::GPR_COUNT;
 use compare::operand::{Base, Operand, EDGES};
 use compare::random::Random;
@@ -233,7 +234,7 @@ fn register_counts(comparison: &mut Comparison) {
             check_refused(comparison, case, 1, 0);
         }
         case.code.truncate(random.below(case.code.len()));
-        case.features = random.below(SETS) as u32;
+        case.features = feature_sets::any(random);
         for count in COUNTS {
             case.registers.resize(count, random.number());
             check_refused(comparison, case, 1, 0);
@@ -241,20 +242,17 @@ fn register_counts(comparison: &mut Comparison) {
     });
 }
 
-/// Every set of features, each single higher bit alone and beside all features, and the largest.
+/// Sets of features that pass, and numbers that do not.
 fn feature_numbers(comparison: &mut Comparison) {
-    let single = (6..32).map(|bit| 1 << bit);
-    let mut numbers: Vec<u32> = (0..=72).chain(single.clone()).collect();
-    numbers.extend(single.map(|bit| bit | ALL));
-    numbers.extend([u32::MAX, u32::MAX - 1, u32::MAX << 6, u32::MAX >> 1]);
+    let numbers = feature_sets::numbers();
     for_operands(50, 1, |form, case, _| {
         for &features in &numbers {
             case.features = features;
             let status = comparison.check(case).status;
             let expected = match features {
-                0..=ALL if form.is_enabled(features) => 0,
-                0..=ALL => 5,
-                _ => 1,
+                _ if !feature_sets::passes(features) => 1,
+                _ if form.is_enabled(features) => 0,
+                _ => 5,
             };
             assert_eq!(status, expected, "the generator made\n{case}");
         }
@@ -269,7 +267,7 @@ fn reserved_fields(comparison: &mut Comparison) {
         for _ in 0..4 {
             case.refill(&mut random);
             case.code = wrong.encode(&mut random);
-            case.features = random.below(SETS) as u32;
+            case.features = feature_sets::possible(&mut random);
             check_cuts(comparison, &mut case, |length, whole| {
                 wrong.answer(length, whole)
             });
@@ -300,7 +298,7 @@ fn unknown_opcodes(comparison: &mut Comparison) {
     for_operands(70, 5, |form, case, random| {
         let opcode = random.pick(&[0x0B, 0x58, 0xA2, 0xFE, 0xFF]);
         case.code[form.shape.opcode_at()] = opcode;
-        case.features = random.below(SETS) as u32;
+        case.features = feature_sets::possible(random);
         check_refused(comparison, case, 3, 0);
     });
 }
@@ -364,7 +362,7 @@ fn random_behind_prefix(comparison: &mut Comparison) {
             case.refill(&mut random);
             case.code = random.bytes(15);
             case.code[0] = first;
-            case.features = random.below(SETS) as u32;
+            case.features = feature_sets::any(&mut random);
             comparison.check(&case);
         }
     }
@@ -377,7 +375,7 @@ fn any_bytes(comparison: &mut Comparison) {
         let length = random.below(20);
         case.refill(&mut random);
         case.code = random.bytes(length);
-        case.features = random.below(SETS + 2) as u32;
+        case.features = feature_sets::any(&mut random);
         comparison.check(&case);
     }
 }
@@ -386,7 +384,7 @@ fn any_bytes(comparison: &mut Comparison) {
 fn several_faults(comparison: &mut Comparison) {
     for_operands(140, 200, |_, case, random| {
         let mut is_there = || random.below(3) == 0;
-        let [bits, cut, missing, unknown] = [(); 4].map(|()| is_there());
+        let [bits, cut, missing, refused] = [(); 4].map(|()| is_there());
         // This hides all others, so it is rarer.
         let count = is_there() && is_there();
         if bits {
@@ -397,10 +395,10 @@ fn several_faults(comparison: &mut Comparison) {
             case.behind = case.code.split_off(random.below(case.code.len()));
         }
         if missing {
-            case.features = random.below(SETS) as u32;
+            case.features = feature_sets::possible(random);
         }
-        if unknown && random.flag() {
-            case.features |= 1 << random.below(32);
+        if refused && random.flag() {
+            case.features = feature_sets::refused(random);
         }
         if count {
             case.registers.resize(random.pick(&COUNTS), 0);

@@ -1,5 +1,6 @@
 //! Exact answers of an address for inputs that a careless caller may pass.
 
+use compare::feature_sets::REFUSED;
 use compare::guard::Guarded;
 use compare::limits::features::ALL;
 use tarhuspo::Addressed;
@@ -45,7 +46,7 @@ fn other_than_sixteen_registers_are_refused_whatever_the_code() {
     for code in codes {
         for count in [0, 1, 8, 15, 17, 32, 2_048, 100_000] {
             let registers = vec![u64::MAX; count];
-            for features in [0, 1, ALL, ALL + 1, u32::MAX] {
+            for features in [0, 1, ALL, ALL - 1, ALL + 1, u32::MAX] {
                 assert_eq!(address(code, features, &registers, 7), refused(1, 0));
             }
         }
@@ -53,10 +54,10 @@ fn other_than_sixteen_registers_are_refused_whatever_the_code() {
 }
 
 #[test]
-fn unknown_features_are_refused_whatever_the_code() {
+fn wrong_features_are_refused_whatever_the_code() {
     let codes: [&[u8]; 5] = [&[], &[0x90], &[0x62; 15], &REGISTER_FORM, &MEMORY_FORM];
     for code in codes {
-        for features in [ALL + 1, 1 << 31, u32::MAX] {
+        for features in REFUSED {
             assert_eq!(address(code, features, &[3; 16], 7), refused(1, 0));
         }
     }

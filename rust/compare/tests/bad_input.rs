@@ -1,8 +1,9 @@
 //! Exact answers for inputs that a careless caller may pass.
 
 use compare::decoding::{library_fields, Fields};
+use compare::feature_sets::{passes, REFUSED};
 use compare::guard::Guarded;
-use compare::limits::features::ALL;
+use compare::limits::features::{ALL, SETS};
 
 /// Decodes `code` between guard bytes, and sees that code and guard bytes stay.
 fn decode(code: &[u8], features: u32) -> Fields {
@@ -77,11 +78,11 @@ fn long_code_is_decoded_from_its_start_alone() {
 }
 
 #[test]
-fn unknown_features_are_refused_before_the_code_is_read() {
+fn wrong_features_are_refused_before_the_code_is_read() {
     let accepted = [0xC5, 0xF9, 0x70, 0xCA, 0x1B];
     let codes: [&[u8]; 5] = [&[], &[0x62], &accepted, &[0x90; 15], &[0; 100_000]];
     for code in codes {
-        for features in [ALL + 1, 1 << 31, u32::MAX] {
+        for features in REFUSED {
             assert_eq!(decode(code, features), refused(1), "features {features:#x}");
         }
     }
@@ -104,22 +105,27 @@ fn reasons_name_the_first_wrong_field() {
         (&[0x62, 0xF1, 0x7D, 0xC8, 0x70, 0xCA, 0x1B], 6),
     ];
     for (code, reason) in cases {
-        for features in 0..=ALL {
+        for features in SETS {
             assert_eq!(decode(code, features), reserved(reason), "{code:02X?}");
         }
+        assert_eq!(decode(code, ALL - 1), refused(1), "{code:02X?}");
         assert_eq!(decode(code, ALL + 1), refused(1), "{code:02X?}");
     }
 }
 
 #[test]
-fn every_set_of_features_is_allowed() {
-    for features in 0..=ALL {
-        assert_eq!(decode(&[], features), refused(2), "features {features}");
+fn features_that_no_processor_has_are_refused() {
+    for features in 0..=255 {
+        let status = if passes(features) { 2 } else { 1 };
+        let found = decode(&[], features);
+        assert_eq!(found, refused(status), "features {features}");
     }
-    // VPSHUFB zmm1, zmm2, zmm3 needs AVX512BW alone.
+    // VPSHUFB zmm1, zmm2, zmm3 needs AVX512BW, and with it AVX512F and AVX.
     let code = [0x62, 0xF2, 0x6D, 0x48, 0x00, 0xCB];
     let accepted = [0, 6, 0, 10, 512, 1, 1, 2, 3, 0, 0, 0, 0, 0, 0];
     assert_eq!(decode(&code, 31), refused(5));
-    assert_eq!(decode(&code, 32), accepted);
+    assert_eq!(decode(&code, 32), refused(1));
+    assert_eq!(decode(&code, 33), refused(1));
+    assert_eq!(decode(&code, 37), accepted);
     assert_eq!(decode(&code, ALL), accepted);
 }

@@ -2,6 +2,7 @@
 
 use compare::decoding::{Comparison, STATUSES};
 use compare::encoding::{Prefix, Shape};
+use compare::feature_sets;
 use compare::instructions::Instructions;
 use compare::limits::features::{ALL, SETS};
 use compare::random::Random;
@@ -129,14 +130,18 @@ fn accepted(comparison: &mut Comparison) {
     }
 }
 
-/// Each byte up to the SIB takes every value, under every set of features.
+/// Each byte up to the SIB takes every value, under every set of features that passes, and under a
+/// number of either kind that does not.
 fn one_byte(comparison: &mut Comparison) {
-    for (shape, mut code) in padded_samples(2, 3) {
+    let mut random = Random::new(17);
+    for (shape, mut code) in padded_samples(2, 6) {
         for at in 0..=shape.opcode_at() + 2 {
             let kept = code[at];
             for value in 0..=u8::MAX {
                 code[at] = value;
-                check_features(comparison, &code, 0..=ALL);
+                check_features(comparison, &code, SETS);
+                let refused = [feature_sets::impossible, feature_sets::unknown];
+                check_features(comparison, &code, refused.map(|number| number(&mut random)));
             }
             code[at] = kept;
         }
@@ -214,13 +219,13 @@ fn truncations(comparison: &mut Comparison) {
     }
 }
 
-/// Which of two faults is reported, under all sets of features in turn.
+/// Which of two faults is reported, under all sets of features that pass in turn.
 fn flipped_truncations(comparison: &mut Comparison) {
     for (_, mut code) in samples(16, 60) {
         for bit in 0..8 * code.len() {
             code[bit / 8] ^= 1 << (bit % 8);
             for length in 0..code.len() {
-                comparison.check_part(&code, length, (bit + length) as u32 % SETS as u32);
+                comparison.check_part(&code, length, SETS[(bit + length) % SETS.len()]);
             }
             code[bit / 8] ^= 1 << (bit % 8);
         }
@@ -247,7 +252,7 @@ fn first_bytes(comparison: &mut Comparison) {
             let length = random.below(20);
             let mut code = random.bytes(1 + length);
             code[0] = first;
-            comparison.check(&code, random.below(SETS + 2) as u32);
+            comparison.check(&code, feature_sets::any(&mut random));
         }
     }
 }
@@ -258,18 +263,13 @@ fn random_behind_prefix(comparison: &mut Comparison) {
         for _ in 0..200_000 {
             let mut code = random.bytes(15);
             code[0] = first;
-            comparison.check(&code, random.below(SETS) as u32);
+            comparison.check(&code, feature_sets::any(&mut random));
         }
     }
 }
 
-/// Small feature numbers, each single bit alone and beside the known ones, and the largest.
+/// Sets of features that pass, and numbers that do not.
 fn feature_numbers(comparison: &mut Comparison) {
-    let single = (6..32).map(|bit| 1 << bit);
-    let mut numbers: Vec<u32> = (0..=72).chain(single.clone()).collect();
-    numbers.extend(single.map(|bit| bit | ALL));
-    numbers.extend([u32::MAX, u32::MAX - 1, u32::MAX << 6, u32::MAX >> 1]);
-
     let mut random = Random::new(12);
     let mut codes = vec![vec![], vec![0x62], vec![0x90], random.bytes(15)];
     for (_, code) in samples(13, 10) {
@@ -278,13 +278,13 @@ fn feature_numbers(comparison: &mut Comparison) {
         codes.extend([code[..code.len() - 1].to_vec(), code, damaged]);
     }
     for code in &codes {
-        check_features(comparison, code, numbers.iter().copied());
+        check_features(comparison, code, feature_sets::numbers());
     }
 }
 
 /// No byte, every single byte, every two bytes, and 15 equal bytes.
 fn short_inputs(comparison: &mut Comparison) {
-    for features in [0, ALL, ALL + 1] {
+    for features in [0, ALL, ALL - 1, ALL + 1] {
         comparison.check(&[], features);
         for byte in 0..=u8::MAX {
             comparison.check(&[byte], features);
@@ -306,6 +306,7 @@ fn long_inputs(comparison: &mut Comparison) {
         code.extend_from_slice(&tail[code.len()..]);
         comparison.check(&code, ALL);
         comparison.check(&code, ALL + 1);
+        comparison.check(&code, ALL - 1);
         code[bit / 8] ^= 1 << (bit % 8);
         comparison.check(&code, ALL);
     }

@@ -3,6 +3,7 @@
 //! comes from the fields that were made wrong.
 
 use compare::encoding::{Prefix, Shape};
+use compare::feature_sets;
 use compare::limits::features::{ALL, SETS};
 use compare::lists::{List, Mix};
 use compare::random::Random;
@@ -21,8 +22,8 @@ type Kind = (&'static str, fn(&mut Comparisons, &mut Random));
 const KINDS: [Kind; 5] = [
     ("all features", all_features),
     ("cut at each byte", cuts),
-    ("every set of features", feature_sets),
-    ("features over 63", unknown_features),
+    ("every set that passes", sets_that_pass),
+    ("features that answer 1", refused_features),
     ("fixed bits, no row", fixed_bits_without_row),
 ];
 
@@ -42,9 +43,9 @@ struct Input<'a> {
 impl Input<'_> {
     /// The answer of the entry points that take features.
     fn answer(&self) -> Answer {
-        match self.features {
-            0..=ALL => self.answer,
-            _ => (1, 0),
+        match feature_sets::passes(self.features) {
+            true => self.answer,
+            false => (1, 0),
         }
     }
 }
@@ -57,8 +58,8 @@ struct Comparisons {
     running: running::Comparison,
     building: building::Comparison,
     listings: listings::Comparison,
-    /// Steps that run and map accept, for every set of features.
-    mixes: Vec<Mix>,
+    /// Steps that run and map accept, for every set of features that passes.
+    mixes: BTreeMap<u32, Mix>,
     /// By status, all entry points together. A listing counts with its last line.
     counts: Counts,
     /// Inputs with exactly these two fields wrong, and with further ones behind them.
@@ -74,7 +75,7 @@ impl Comparisons {
             running: running::Comparison::default(),
             building: building::Comparison::default(),
             listings: listings::Comparison::default(),
-            mixes: (0..SETS as u32).map(Mix::mappable).collect(),
+            mixes: SETS.map(|set| (set, Mix::mappable(set))).into(),
             counts: Counts::default(),
             pairs: BTreeMap::new(),
         }
@@ -138,10 +139,11 @@ impl Comparisons {
         self.counts.add(status);
     }
 
-    /// Up to three accepted steps, none if these features have none.
+    /// Up to three accepted steps, none if these features have none. With features that answer 1,
+    /// steps that all features together accept.
     fn list_before(&self, features: u32, random: &mut Random) -> List {
-        let known = features.min(ALL) as usize;
-        match &self.mixes[known] {
+        let mix = self.mixes.get(&features);
+        match mix.unwrap_or(&self.mixes[&ALL]) {
             mix if mix.is_empty() => List::default(),
             mix => mix.list(random.below(4), random),
         }
@@ -312,7 +314,7 @@ fn cuts(comparisons: &mut Comparisons, random: &mut Random) {
             let input = Input {
                 code: passed,
                 behind,
-                features: random.below(SETS) as u32,
+                features: feature_sets::any(random),
                 answer: wrong.answer(length, code.len()),
             };
             comparisons.check(wrong, &input, random);
@@ -321,17 +323,17 @@ fn cuts(comparisons: &mut Comparisons, random: &mut Random) {
 }
 
 /// A missing feature is not looked at.
-fn feature_sets(comparisons: &mut Comparisons, random: &mut Random) {
-    for_wrong(1, random, |wrong, code, random| {
-        for features in 0..=ALL {
+fn sets_that_pass(comparisons: &mut Comparisons, random: &mut Random) {
+    for_wrong(3, random, |wrong, code, random| {
+        for features in SETS {
             comparisons.check(wrong, &whole(wrong, code, features), random);
         }
     });
 }
 
-fn unknown_features(comparisons: &mut Comparisons, random: &mut Random) {
-    for_wrong(3, random, |wrong, code, random| {
-        for features in [ALL + 1, 1 << 31, u32::MAX] {
+fn refused_features(comparisons: &mut Comparisons, random: &mut Random) {
+    for_wrong(1, random, |wrong, code, random| {
+        for features in feature_sets::REFUSED {
             comparisons.check(wrong, &whole(wrong, code, features), random);
         }
     });
@@ -346,7 +348,7 @@ fn fixed_bits_without_row(comparisons: &mut Comparisons, random: &mut Random) {
         let opcode_at = wrong.shape.opcode_at();
         let mut code = code.to_vec();
         code[opcode_at] = random.pick(&[0x0B, 0x58, 0xA2, 0xFE, 0xFF]);
-        let features = random.below(SETS) as u32;
+        let features = feature_sets::possible(random);
         comparisons.check(wrong, &whole(wrong, &code, features), random);
         let (passed, behind) = code.split_at(opcode_at + 1);
         let input = Input {

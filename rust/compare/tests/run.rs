@@ -1,8 +1,9 @@
 //! A run of the library gives the same numbers and leaves the same bytes as one of the reference.
 
 use compare::faults::{Fault, FEATURE_SETS, RUN_FAULTS};
+use compare::feature_sets;
 use compare::instructions::Instructions;
-use compare::limits::features::{ALL, SETS};
+use compare::limits::features::ALL;
 use compare::limits::{OLD_CODE_LIMIT, OLD_MOST_STEPS};
 use compare::lists::{List, Mix};
 use compare::random::Random;
@@ -275,7 +276,7 @@ fn check_sizes(comparison: &mut Comparison, case: &Case) {
         wrong.masks.resize(count, 7);
         check_expected(comparison, &wrong, refused(1));
     }
-    for features in [ALL + 1, 1 << 31, u32::MAX] {
+    for features in feature_sets::REFUSED {
         let mut wrong = case.clone();
         wrong.features = features;
         check_expected(comparison, &wrong, refused(1));
@@ -398,7 +399,7 @@ fn any_bytes(comparison: &mut Comparison) {
             *first = random.pick(&[*first, 0xC4, 0xC5, 0x62]);
         }
         case.budget = random.below(5) as u64;
-        case.features = random.below(SETS + 1) as u32;
+        case.features = feature_sets::any(&mut random);
         comparison.check(&case);
     }
 }

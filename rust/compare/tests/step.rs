@@ -3,8 +3,9 @@
 
 use compare::coverage::Coverage;
 use compare::encoding::Shape;
+use compare::feature_sets;
 use compare::form::Form;
-use compare::limits::features::{ALL, SETS};
+use compare::limits::features::ALL;
 use compare::limits::{FILE_SIZE, MASK_COUNT};
 use compare::random::Random;
 use compare::stepping::{Case, Comparison};
@@ -232,12 +233,9 @@ fn mask_counts(comparison: &mut Comparison) {
     });
 }
 
-/// Every set of features, each single higher bit alone and beside all features, and the largest.
+/// Sets of features that pass, and numbers that do not.
 fn feature_numbers(comparison: &mut Comparison) {
-    let single = (6..32).map(|bit| 1 << bit);
-    let mut numbers: Vec<u32> = (0..=72).chain(single.clone()).collect();
-    numbers.extend(single.map(|bit| bit | ALL));
-    numbers.extend([u32::MAX, u32::MAX - 1, u32::MAX << 6, u32::MAX >> 1]);
+    let numbers = feature_sets::numbers();
     for_forms(10, 4, |_, case, _| {
         for &features in &numbers {
             case.features = features;
@@ -305,7 +303,7 @@ fn random_behind_prefix(comparison: &mut Comparison) {
             let mut code = random.bytes(15);
             code[0] = first;
             case.set_code(code, 0, &mut random);
-            case.features = random.below(SETS) as u32;
+            case.features = feature_sets::any(&mut random);
             fit_memory(&mut case, &mut random);
             comparison.check(&case);
         }
@@ -319,7 +317,7 @@ fn any_bytes(comparison: &mut Comparison) {
         let length = random.below(20);
         let memory = random.below(66);
         case.set_code(random.bytes(length), memory, &mut random);
-        case.features = random.below(SETS + 2) as u32;
+        case.features = feature_sets::any(&mut random);
         comparison.check(&case);
     }
 }
@@ -328,7 +326,7 @@ fn any_bytes(comparison: &mut Comparison) {
 fn several_faults(comparison: &mut Comparison) {
     for_forms(17, 1_000, |_, case, random| {
         let mut is_there = || random.below(3) == 0;
-        let [bits, cut, length, missing, unknown] = [(); 5].map(|()| is_there());
+        let [bits, cut, length, missing, refused] = [(); 5].map(|()| is_there());
         // These two hide all others, so they are rarer.
         let [file, masks] = [(); 2].map(|()| is_there() && is_there());
         if bits {
@@ -343,10 +341,10 @@ fn several_faults(comparison: &mut Comparison) {
             case.set_memory(wrong, random);
         }
         if missing {
-            case.features = random.below(SETS) as u32;
+            case.features = feature_sets::possible(random);
         }
-        if unknown && random.flag() {
-            case.features |= 1 << random.below(32);
+        if refused && random.flag() {
+            case.features = feature_sets::refused(random);
         }
         if file {
             case.file

@@ -1,5 +1,6 @@
 //! Exact answers of a step for inputs that a careless caller may pass.
 
+use compare::feature_sets::REFUSED;
 use compare::guard::Guarded;
 use compare::limits::features::ALL;
 use tarhuspo::Stepped;
@@ -97,10 +98,10 @@ fn wrong_opmask_counts_are_refused_whatever_the_code() {
 }
 
 #[test]
-fn unknown_features_are_refused_whatever_the_code() {
+fn wrong_features_are_refused_whatever_the_code() {
     let codes: [&[u8]; 4] = [&[], &[0x90], &REGISTER_FORM, &MEMORY_FORM];
     for code in codes {
-        for features in [ALL + 1, 1 << 31, u32::MAX] {
+        for features in REFUSED {
             assert_refused(code, 2_048, &[0; 8], features, &[], 1);
         }
     }

@@ -3,8 +3,9 @@
 use crate::Kind;
 use compare::building::{Case, Comparison};
 use compare::faults::{Fault, BUILD_FAULTS, FEATURE_SETS};
+use compare::feature_sets;
 use compare::form::Form;
-use compare::limits::features::{ALL, SETS};
+use compare::limits::features::ALL;
 use compare::limits::OLD_CODE_LIMIT;
 use compare::lists::{List, Mix};
 use compare::random::Random;
@@ -158,7 +159,7 @@ fn check_sizes(comparison: &mut Comparison, case: &Case) {
         wrong.masks.resize(count, 7);
         check_expected(comparison, &wrong, 0, 1);
     }
-    for features in [ALL + 1, 1 << 31, u32::MAX] {
+    for features in feature_sets::REFUSED {
         let mut wrong = case.clone();
         wrong.features = features;
         check_expected(comparison, &wrong, 0, 1);
@@ -236,7 +237,7 @@ fn any_bytes(comparison: &mut Comparison) {
         if let Some(first) = case.code.first_mut() {
             *first = random.pick(&[*first, 0xC4, 0xC5, 0x62]);
         }
-        case.features = random.below(SETS + 1) as u32;
+        case.features = feature_sets::any(&mut random);
         comparison.check(&case);
     }
 }
