@@ -2,9 +2,9 @@
 //!
 //! Request 1: bytes of the six new rows answered 3, and now do what [`lane_permutes`] says.
 //! Features over 31 answered 1, and up to 63 no longer do. All other bytes are as before: no row of
-//! the base needs feature bit 5, so they are given to today's library with the features below it.
-//! The stored inputs with such bytes and such features alone, which are most, hold the library to
-//! these answers.
+//! the base needs feature bit 5. They are given to today's library with all features of the base, and
+//! whether one is missing is decided here ([`needs`]). The stored inputs with such bytes and with
+//! features of the base, which are most, hold the library to these answers.
 //!
 //! Request 3: a listing has the reason behind a 4 ([`request_3`]). It asked for a text of 27,672
 //! bytes, too. Request 5 has taken that back, so that no answer shows it any more, and it is not
@@ -12,6 +12,9 @@
 //!
 //! Request 5: a list may have 16,384 bytes, and a text of 64 bytes gets as many whole lines as fit.
 //! The frozen listings have no place, and are taken from place 0.
+//!
+//! Request 6: a set of features that no processor has answers 1 ([`request_6`]). Those over 31 did at
+//! the base, so that they answer the same again.
 //!
 //! Lists are gone through here, an instruction at a time, as document 01 says it: the library is
 //! asked about single instructions, which no limit is for. At the base that gives the base's
@@ -22,7 +25,9 @@ use crate::decoded::Decoded;
 use crate::digest::Digest;
 use crate::input::{Build, Decode, Input, Listing, Run, Step};
 use crate::lane_permutes::{self, Instruction};
+use crate::needs::needed_features;
 use crate::request_3;
+use crate::request_6;
 use crate::today;
 
 const FILE_SIZE: usize = 2_048;
@@ -54,6 +59,7 @@ pub enum Landed {
     Request1,
     Request3,
     Request5,
+    Request6,
 }
 
 /// What bytes at the start of some code are.
@@ -67,13 +73,15 @@ enum Found {
 }
 
 impl Landed {
-    /// In the order of their landings, the last one today's.
-    pub const ALL: [Landed; 4] = [
+    /// In the order of their landings.
+    pub const ALL: [Landed; 5] = [
         Landed::Base,
         Landed::Request1,
         Landed::Request3,
         Landed::Request5,
+        Landed::TODAY,
     ];
+    pub const TODAY: Landed = Landed::Request6;
 
     /// The answer to an input; none for maps that are applied or composed, which have no code.
     pub fn answer(self, input: &Input) -> Option<Answer> {
@@ -94,11 +102,17 @@ impl Landed {
         }
     }
 
+    /// Whether features do not answer 1.
+    fn takes(self, features: u32) -> bool {
+        let refused = self >= Landed::Request6 && request_6::no_processor_has(features);
+        features <= self.feature_limit() && !refused
+    }
+
     /// Most bytes of a list.
     fn code_limit(self) -> usize {
         match self {
             Landed::Base | Landed::Request1 | Landed::Request3 => 4_096,
-            Landed::Request5 => 16_384,
+            Landed::Request5 | Landed::Request6 => 16_384,
         }
     }
 
@@ -106,7 +120,7 @@ impl Landed {
     fn text_least(self) -> usize {
         match self {
             Landed::Base | Landed::Request1 | Landed::Request3 => 25_624,
-            Landed::Request5 => 64,
+            Landed::Request5 | Landed::Request6 => 64,
         }
     }
 
@@ -120,13 +134,13 @@ impl Landed {
     }
 
     fn decoded(self, code: &[u8], features: u32) -> Decoded {
-        if features > self.feature_limit() {
+        if !self.takes(features) {
             return Decoded::refused(1);
         }
         match self.find(code, features) {
             Found::New(instruction) => instruction.decoded,
             Found::Refused(status) => Decoded::refused(status),
-            Found::Other => today::decoded(code, features & BASE_FEATURES),
+            Found::Other => other(code, features),
         }
     }
 
@@ -142,7 +156,7 @@ impl Landed {
     fn step(self, input: &Step) -> Answer {
         let ((status, length), digest) = input.file.call(|file| {
             let sizes = file.len() == FILE_SIZE && input.masks.len() == MASK_COUNT;
-            if !sizes || input.features > self.feature_limit() {
+            if !sizes || !self.takes(input.features) {
                 return (1, 0);
             }
             self.stepped(
@@ -176,7 +190,10 @@ impl Landed {
                 (0, new.decoded.length)
             }
             Found::Refused(status) => (status, 0),
-            Found::Other => today::stepped(code, file, masks, features & BASE_FEATURES, memory),
+            Found::Other => match other(code, features).status {
+                0 => today::stepped(code, file, masks, BASE_FEATURES, memory),
+                status => (status, 0),
+            },
         }
     }
 
@@ -197,8 +214,8 @@ impl Landed {
             features,
             ..
         } = input;
-        if file.len() != FILE_SIZE || masks.len() != MASK_COUNT || *features > self.feature_limit()
-        {
+        let sizes = file.len() == FILE_SIZE && masks.len() == MASK_COUNT;
+        if !sizes || !self.takes(*features) {
             return (1, 0, 0);
         }
         if code.len() > self.code_limit() {
@@ -233,7 +250,8 @@ impl Landed {
             features,
             ..
         } = input;
-        if map.len() != MAP_SIZE || masks.len() != MASK_COUNT || *features > self.feature_limit() {
+        let sizes = map.len() == MAP_SIZE && masks.len() == MASK_COUNT;
+        if !sizes || !self.takes(*features) {
             return (1, 0);
         }
         if code.len() > self.code_limit() {
@@ -261,7 +279,7 @@ impl Landed {
                 (0, new.decoded.length)
             }
             Found::Refused(status) => (status, 0),
-            Found::Other => map_other(code, entries, masks, features & BASE_FEATURES),
+            Found::Other => map_other(code, entries, masks, features),
         }
     }
 
@@ -329,14 +347,25 @@ pub fn whole_lines(text: &str, size: usize) -> &str {
     &text[..end]
 }
 
+/// Decodes bytes that request 1 says nothing of, once answer 1 is out of the question. Features are
+/// looked at last, as in document 01.
+fn other(code: &[u8], features: u32) -> Decoded {
+    let decoded = today::decoded(code, BASE_FEATURES);
+    if decoded.status == 0 && needed_features(&decoded) & !features != 0 {
+        return Decoded::refused(5);
+    }
+    decoded
+}
+
 /// An instruction of the base: its own map, and the entries that this names.
 fn map_other(code: &[u8], entries: &mut [u16], masks: &[u64], features: u32) -> (u32, u32) {
-    let decoded = today::decoded(code, features);
+    let decoded = other(code, features);
     if decoded.status != 0 {
         return (decoded.status, 0);
     }
     let mut own = [0; MAP_SIZE];
-    let (status, _) = today::built(&code[..decoded.length as usize], masks, features, &mut own);
+    let code = &code[..decoded.length as usize];
+    let (status, _) = today::built(code, masks, BASE_FEATURES, &mut own);
     if status != 0 {
         return (status, 0);
     }

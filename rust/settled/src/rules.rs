@@ -73,10 +73,15 @@ pub const RULES: &[Rule] = &[
             !is_long(input) && is_changed_by(Landed::Request5, input, old, new)
         },
     },
+    Rule {
+        request: 6,
+        name: "a set of features that no processor has is refused with 1",
+        explains: |input, old, new| is_changed_by(Landed::Request6, input, old, new),
+    },
 ];
 
 /// Features that request 1 no longer refuses. With fewer, and in listings, which take none, its new
-/// rows alone can change an answer.
+/// rows alone can change an answer. Those of them that request 6 refuses again answer as at the base.
 fn has_feature_5(input: &Input) -> bool {
     matches!(input.features(), Some(32..=63))
 }

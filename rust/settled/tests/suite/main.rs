@@ -6,6 +6,7 @@ mod reading;
 mod request_1;
 mod request_3;
 mod request_5;
+mod request_6;
 mod rules;
 mod settled;
 mod tools;

@@ -1,13 +1,13 @@
 //! Request 1 by itself: its worked cases, and the answers that its rules take and do not take.
 
-use crate::tools::{expect_rule, listing, rule};
+use crate::tools::{expect_rule, inputs, rule};
 use settled::answer::Answer;
 use settled::decoded::Decoded;
 use settled::digest::Digest;
-use settled::input::{Apply, Build, Decode, Input, Run, Step};
+use settled::input::{Apply, Input};
 use settled::landed::Landed;
 use settled::lane_permutes::{self, Instruction};
-use settled::room::{old_map, Room};
+use settled::room::Room;
 
 fn decoded(code: &[u8], features: u32) -> Result<Decoded, u32> {
     let found = lane_permutes::decode(code, features).expect("one of the rows");
@@ -305,46 +305,13 @@ fn list() -> Vec<u8> {
     [&OLD[..], &UNPACK, &OLD].concat()
 }
 
-/// An input of each entry point that has code.
-fn inputs(features: u32, code: &[u8], list: &[u8]) -> Vec<Input> {
-    let file = || Room::new((0..2_560).map(|i| i as u8).collect(), 2_048);
-    let (masks, list) = (|| vec![u64::MAX; 8], || list.to_vec());
-    vec![
-        Input::Decode(Decode {
-            features,
-            code: code.to_vec(),
-        }),
-        Input::Step(Step {
-            features,
-            file: file(),
-            masks: masks(),
-            memory: vec![],
-            code: code.to_vec(),
-        }),
-        Input::Run(Run {
-            features,
-            budget: 9,
-            file: file(),
-            masks: masks(),
-            code: list(),
-        }),
-        Input::Build(Build {
-            features,
-            map: Room::new(old_map(7), 2_048),
-            masks: masks(),
-            code: list(),
-        }),
-        // As much text as the base asks for: with less, request 5's rule speaks.
-        listing(25_624, &list()),
-    ]
-}
-
 #[test]
 fn rules_take_the_right_answer_alone() {
     for input in inputs(31, &UNPACK, &list()) {
         expect_rule(&input, 1);
     }
-    for features in [32, 63] {
+    // Of the sets from 32 on, those that request 6 leaves.
+    for features in [37, 63] {
         for input in inputs(features, &UNPACK, &list()) {
             let takes_features = input.features().is_some();
             expect_rule(&input, usize::from(!takes_features));

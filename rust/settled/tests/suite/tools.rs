@@ -5,9 +5,9 @@ use settled::base::Base;
 use settled::digest::Digest;
 use settled::entry_point::EntryPoint;
 use settled::frozen::folder;
-use settled::input::{Input, Listing};
+use settled::input::{Build, Decode, Input, Listing, Run, Step};
 use settled::landed::Landed;
-use settled::room::Room;
+use settled::room::{old_map, Room};
 use settled::rules::RULES;
 
 pub fn base() -> Base {
@@ -30,6 +30,40 @@ pub fn listing(size: u16, code: &[u8]) -> Input {
     })
 }
 
+/// An input of each entry point that has code.
+pub fn inputs(features: u32, code: &[u8], list: &[u8]) -> Vec<Input> {
+    let file = || Room::new((0..2_560).map(|i| i as u8).collect(), 2_048);
+    let (masks, list) = (|| vec![u64::MAX; 8], || list.to_vec());
+    vec![
+        Input::Decode(Decode {
+            features,
+            code: code.to_vec(),
+        }),
+        Input::Step(Step {
+            features,
+            file: file(),
+            masks: masks(),
+            memory: vec![],
+            code: code.to_vec(),
+        }),
+        Input::Run(Run {
+            features,
+            budget: 9,
+            file: file(),
+            masks: masks(),
+            code: list(),
+        }),
+        Input::Build(Build {
+            features,
+            map: Room::new(old_map(7), 2_048),
+            masks: masks(),
+            code: list(),
+        }),
+        // As much text as the base asks for: with less, request 5's rule speaks.
+        listing(25_624, &list()),
+    ]
+}
+
 /// The number of the rule that explains this difference.
 pub fn rule(input: &Input, old: &Answer, new: &Answer) -> Option<usize> {
     RULES
@@ -40,7 +74,7 @@ pub fn rule(input: &Input, old: &Answer, new: &Answer) -> Option<usize> {
 /// The base's answer to an input that has code, and today's.
 pub fn answers(input: &Input) -> [Answer; 2] {
     let answer = |landed: Landed| landed.answer(input).expect("an input with code");
-    [answer(Landed::Base), answer(Landed::Request5)]
+    [answer(Landed::Base), answer(Landed::TODAY)]
 }
 
 /// The right answer has this rule, and one that is wrong in any part has none.
