@@ -33,10 +33,17 @@ extern "C" {
  * size or limit, an answer that changes for some input. MINOR moves when something is only added: a
  * function, a constant, an instruction that status 3 refused before.
  */
-#define TARHUSPO_VERSION_MAJOR 4
+#define TARHUSPO_VERSION_MAJOR 5
 #define TARHUSPO_VERSION_MINOR 0
 
-/* Processor features: add those that the processor has. */
+/*
+ * Processor features: add those that the processor has. Every other feature needs AVX, and
+ * AVX512VL, AVX512_VBMI and AVX512BW need AVX512F as well. 0, no feature, is a set too.
+ *
+ * Any other number, and so each over 63, is a set that no processor has: every function that takes
+ * features refuses it with status 1, before it looks at anything else. 19 numbers pass. To ask
+ * about one, decode no bytes: tarhuspo_decode(code, 0, features).status is 2 if it passes, else 1.
+ */
 #define TARHUSPO_AVX UINT32_C(1)
 #define TARHUSPO_AVX2 UINT32_C(2)
 #define TARHUSPO_AVX512F UINT32_C(4)
@@ -81,7 +88,7 @@ extern "C" {
  * status is 0 if the instruction is accepted. Otherwise it says what is wrong, and every other
  * field is 0, but for the reason of a 4. The first of these that applies is given:
  *
- *  1  features is over 63.
+ *  1  features is a set that no processor has: see the feature macros.
  *  2  There is no byte.
  *  3  The first byte is not C4, C5 or 62 (hexadecimal, as below).
  *  2  The bytes end before the opcode does.
@@ -127,7 +134,7 @@ tarhuspo_decoded tarhuspo_decode(const uint8_t *code, size_t code_len, uint32_t 
  * status is 0 if the instruction is accepted. Otherwise it says what is wrong, and every other
  * field is 0, but for the reason of a 4. The first of these that applies is given:
  *
- *  1  registers_len is not 16, or features is over 63.
+ *  1  registers_len is not 16, or features is a set that no processor has.
  *  2 to 5  The instruction is not accepted: as tarhuspo_decode, in its order and with its reason.
  */
 typedef struct {
@@ -170,7 +177,7 @@ tarhuspo_addressed tarhuspo_address(const uint8_t *code, size_t code_len, uint32
  * status is 0 if the instruction was carried out. Otherwise it says what is wrong, and length is 0.
  * The first of these that applies is given:
  *
- *  1  file_len is not 2048, masks_len is not 8, or features is over 63.
+ *  1  file_len is not 2048, masks_len is not 8, or features is a set that no processor has.
  *  2 to 5  The instruction is not accepted: as tarhuspo_decode, in its order and with its reason.
  *  6  memory_len is not exactly what tarhuspo_decode gives as memory: 0 for a register form, the
  *     vector width for a memory form, one element for a broadcast. An opmask changes nothing in
@@ -206,7 +213,7 @@ tarhuspo_stepped tarhuspo_step(const uint8_t *code, size_t code_len, uint8_t *fi
  * status is 0 if the end of the code was reached or the budget was spent. Otherwise it is the first
  * of these that applies:
  *
- *  1  file_len is not 2048, masks_len is not 8, or features is over 63.
+ *  1  file_len is not 2048, masks_len is not 8, or features is a set that no processor has.
  *  8  code_len is over 16384.
  *  2 to 6  The instruction at place is refused: as tarhuspo_step without memory, with its reason.
  *     Every memory form that is not refused with 2 to 5 is refused with 6.
@@ -237,7 +244,7 @@ tarhuspo_ran tarhuspo_run(const uint8_t *code, size_t code_len, uint8_t *file, s
  *
  * status is 0 if the map was written. Otherwise it is the first of these that applies:
  *
- *  1  map_len is not 2048, masks_len is not 8, or features is over 63.
+ *  1  map_len is not 2048, masks_len is not 8, or features is a set that no processor has.
  *  8  code_len is over 16384.
  *  2 to 5, 7  The instruction at place is refused: 2 to 5 as tarhuspo_decode, with its reason,
  *     then 7 for a memory form, and for one whose control is in a register (VPERMB, VPSHUFB, and

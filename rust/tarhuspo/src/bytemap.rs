@@ -24,9 +24,10 @@ const _: () = assert!(size_of::<Built>() == 16 && align_of::<Built>() == 8);
 /// Writes the byte map of a list of instructions into `map`, whatever that held before.
 ///
 /// Applying the map does to every register file what running `code` with the same `masks` and
-/// `features` does. `code` has at most 16,384 bytes. Instructions with a memory operand, VPERMB,
-/// VPSHUFB, and VPERMILPD or VPERMILPS with its control in a register are refused with status 7:
-/// what they move depends on more than code and opmasks. A refusal changes no entry.
+/// `features` does; these are as for [`step`](crate::step()). `code` has at most 16,384 bytes.
+/// Instructions with a memory operand, VPERMB, VPSHUFB, and VPERMILPD or VPERMILPS with its control
+/// in a register are refused with status 7: what they move depends on more than code and opmasks. A
+/// refusal changes no entry.
 ///
 /// ```
 /// use tarhuspo::limits::{FILE_SIZE, MAP_SIZE, MASK_COUNT};

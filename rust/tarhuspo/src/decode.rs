@@ -72,7 +72,8 @@ impl Decoded {
 /// Decodes the instruction at the start of `code` for a processor with the given `features`.
 ///
 /// Bytes after the instruction are ignored, and `code` may have any length. `features` is a sum of
-/// the constants in [`features`](crate::features).
+/// the constants in [`features`](crate::features), one that a processor can have: all but the
+/// [`possible`](crate::features::possible) ones are refused with status 1.
 ///
 /// ```
 /// use tarhuspo::{decode, features};
@@ -82,6 +83,9 @@ impl Decoded {
 ///
 /// let refused = decode(&[], features::ALL);
 /// assert_eq!((refused.status, refused.length), (2, 0));
+///
+/// // AVX512VL without AVX512F, which no processor has: the code is not looked at.
+/// assert_eq!(decode(&[], features::AVX | features::AVX512VL).status, 1);
 /// ```
 ///
 /// With status 4 comes the reserved field that is wrong:

@@ -15,7 +15,10 @@
 pub fn describe(status: u32) -> &'static str {
     match status {
         0 => "The input was accepted.",
-        1 => "A buffer has the wrong size, or the features or a listing's place are out of range.",
+        1 => {
+            "A buffer has the wrong size, no processor has the features, or a listing's place is \
+             behind the code."
+        }
         2 => "The bytes end before the instruction does.",
         3 => "The bytes are not one of the supported instructions.",
         4 => "A reserved field of the encoding has a value that raises #UD.",

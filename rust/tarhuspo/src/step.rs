@@ -23,7 +23,8 @@ const _: () = assert!(size_of::<Stepped>() == 12 && align_of::<Stepped>() == 4);
 /// are the 8 opmasks; number 0 stands for no masking, so its content does not count. `memory` is
 /// the memory operand, with exactly the bytes that the instruction reads, and empty for a register
 /// form: [`decode`](crate::decode) tells how many. Other sizes are refused;
-/// [`limits`](crate::limits) has them as constants.
+/// [`limits`](crate::limits) has them as constants. `features` are those of
+/// [`decode`](crate::decode).
 ///
 /// An accepted instruction changes the 64 bytes of its destination register and nothing else; those
 /// above the vector width become 0. A refused one changes nothing.
