@@ -13,7 +13,7 @@
 #include <stdlib.h>
 #include <string.h>
 
-/* What the guest's processor has. */
+/* What the guest's processor has: AVX512VL, VBMI and BW need AVX512F, and all the others AVX. */
 #define FEATURES                                                           \
     (TARHUSPO_AVX | TARHUSPO_AVX2 | TARHUSPO_AVX512F | TARHUSPO_AVX512VL | \
      TARHUSPO_AVX512_VBMI | TARHUSPO_AVX512BW)
@@ -71,6 +71,20 @@ static void fill_guest(void)
         guest[i] = (uint8_t)(i + 0x80);
     general[3] = GUEST_START + 16; /* rbx */
     general[12] = 6;               /* r12 */
+}
+
+/*
+ * Every function refuses features that no processor has, with status 1. Decoding no bytes is how to
+ * ask: the status is 2 for features that pass.
+ */
+static void features(void)
+{
+    tarhuspo_decoded possible = tarhuspo_decode(list, 0, FEATURES);
+    tarhuspo_decoded wrong = tarhuspo_decode(list, 0, FEATURES - TARHUSPO_AVX512F);
+
+    expect("a processor can have these features", possible.status == 2);
+    printf("features: no bytes have status %" PRIu32 ", and without AVX512F %" PRIu32 "\n",
+           possible.status, wrong.status);
 }
 
 /* Decoding tells the length, the operands and how much memory is wanted. */
@@ -208,8 +222,10 @@ static void listing(void)
 
 int main(void)
 {
-    uint32_t wanted = decode();
+    uint32_t wanted;
 
+    features();
+    wanted = decode();
     refuse();
     fill_guest();
     step(find(wanted, UINT64_C(0x401000)), wanted);

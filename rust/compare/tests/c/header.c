@@ -80,7 +80,8 @@ static void decode(void)
     print("too short", tarhuspo_decode(code, sizeof code - 1, 63));
     print("empty", tarhuspo_decode(code, 0, 63));
     print("features", tarhuspo_decode(code, sizeof code, 64));
-    print("vpshufb", tarhuspo_decode(vpshufb, sizeof vpshufb, TARHUSPO_AVX512BW));
+    print("vpshufb", tarhuspo_decode(vpshufb, sizeof vpshufb,
+                                     TARHUSPO_AVX | TARHUSPO_AVX512F | TARHUSPO_AVX512BW));
     print("without avx512bw", tarhuspo_decode(vpshufb, sizeof vpshufb, 63 - TARHUSPO_AVX512BW));
     print("z", tarhuspo_decode(z, sizeof z, 63));
     print("b and z", tarhuspo_decode(b_and_z, sizeof b_and_z, 0));
@@ -149,13 +150,19 @@ static void step(void)
 /* vunpcklps xmm1, xmm2, xmm3; vpshufd xmm1, xmm1, 0x1b; a byte that starts nothing */
 static const uint8_t list[] = {0xC5, 0xE8, 0x14, 0xCB, 0xC5, 0xF9, 0x70, 0xC9, 0x1B, 0x90};
 
-static void run(void)
+static void fill_file(void)
 {
-    tarhuspo_ran r;
     size_t i;
 
     for (i = 0; i < sizeof file; i++)
         file[i] = (uint8_t)(i + i / 64);
+}
+
+static void run(void)
+{
+    tarhuspo_ran r;
+
+    fill_file();
     r = tarhuspo_run(list, sizeof list, file, sizeof file, masks, TARHUSPO_MASK_COUNT, 63,
                      TARHUSPO_MOST_STEPS);
     printf("run: %" PRIu64 " %" PRIu64 " %u, ", r.steps, r.place, r.status);
@@ -260,6 +267,84 @@ static void limit(size_t code_len)
     piece("short text", code, code_len, 0, TARHUSPO_TEXT_LEAST - 1);
 }
 
+/* vunpcklps zmm1, zmm2, zmm3 needs AVX512F. */
+static const uint8_t unpack[] = {0x62, 0xF1, 0x6C, 0x48, 0x14, 0xCB};
+
+/* The functions that take features, and the status that each gives for the unpack. */
+static uint32_t decoding(uint32_t features)
+{
+    return tarhuspo_decode(unpack, sizeof unpack, features).status;
+}
+
+static uint32_t addressing(uint32_t features)
+{
+    const uint64_t registers[TARHUSPO_GPR_COUNT] = {0};
+
+    return tarhuspo_address(unpack, sizeof unpack, features, registers, TARHUSPO_GPR_COUNT, 0)
+        .status;
+}
+
+static uint32_t stepping(uint32_t features)
+{
+    return tarhuspo_step(unpack, sizeof unpack, file, sizeof file, masks, TARHUSPO_MASK_COUNT,
+                         features, unpack, 0)
+        .status;
+}
+
+static uint32_t running(uint32_t features)
+{
+    return tarhuspo_run(unpack, sizeof unpack, file, sizeof file, masks, TARHUSPO_MASK_COUNT,
+                        features, 1)
+        .status;
+}
+
+static uint32_t building(uint32_t features)
+{
+    return tarhuspo_bytemap_build(unpack, sizeof unpack, masks, TARHUSPO_MASK_COUNT, features, map,
+                                  TARHUSPO_MAP_SIZE)
+        .status;
+}
+
+static unsigned refused, changed;
+
+/* Prints a number that passes, with the status. Counts one that does not. */
+static void ask(uint32_t (*call)(uint32_t features), uint32_t features)
+{
+    static uint8_t file_before[TARHUSPO_FILE_SIZE];
+    static uint16_t map_before[TARHUSPO_MAP_SIZE];
+    uint32_t status;
+
+    /* Neither holds what the unpack leaves there. */
+    fill_file();
+    memset(map, 0, sizeof map);
+    memcpy(file_before, file, sizeof file);
+    memcpy(map_before, map, sizeof map);
+    status = call(features);
+    if (status != 1) {
+        printf(" %u:%u", features, status);
+        return;
+    }
+    refused++;
+    if (memcmp(file_before, file, sizeof file) != 0 || memcmp(map_before, map, sizeof map) != 0)
+        changed++;
+}
+
+/* All numbers of up to 8 bits, and larger ones whose low bits would pass. */
+static void features_of(const char *name, uint32_t (*call)(uint32_t features))
+{
+    uint32_t features;
+    unsigned bit;
+
+    refused = changed = 0;
+    printf("features of %s:", name);
+    for (features = 0; features < 256; features++)
+        ask(call, features);
+    for (bit = 8; bit < 32; bit++)
+        ask(call, (UINT32_C(1) << bit) + 63);
+    ask(call, UINT32_MAX);
+    printf(", refused %u, changed %u\n", refused, changed);
+}
+
 int main(void)
 {
     decode();
@@ -271,5 +356,10 @@ int main(void)
     listing();
     limit(TARHUSPO_CODE_LIMIT);
     limit(TARHUSPO_CODE_LIMIT + 1);
+    features_of("decode", decoding);
+    features_of("address", addressing);
+    features_of("step", stepping);
+    features_of("run", running);
+    features_of("build", building);
     return 0;
 }
