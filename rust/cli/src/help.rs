@@ -121,7 +121,8 @@ const MASKS: &str = "  \
 const FEATURES: &str = "  \
   --features LIST  what the processor has: names between commas out of avx,
                    avx2, avx512f, avx512vl, avx512_vbmi, avx512bw, or their
-                   number; all, which is 63, if not given
+                   number; all, which is 63, if not given; without avx there
+                   is no other, and without avx512f none of the last three
 ";
 
 const REASONS: &str = "
@@ -177,7 +178,7 @@ byte in vectors, or in elements. tarhuspo address works the address out.
 ";
 
 const DECODE_END: &str = "
-example: tarhuspo decode 62 F1 7D C9 70 CA 1B --features avx512f
+example: tarhuspo decode 62 F1 7D C9 70 CA 1B --features avx,avx512f
 
 exit status: 0 accepted, 1 refused, 2 bad usage, 3 internal error
 ";

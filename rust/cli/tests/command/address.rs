@@ -41,7 +41,7 @@ r12:     0x8
             "--gpr",
             "rbx=0x1000,r12=8",
             "--features",
-            "avx512f",
+            "avx,avx512f",
         ],
     ] {
         assert_eq!(printed(arguments), expected, "{arguments:?}");

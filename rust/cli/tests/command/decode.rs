@@ -271,17 +271,17 @@ fn refusals_have_number_and_sentence() {
     assert_refused(&["decode", "C5 F9 70 CA 1B", "--features", "0"], 5);
 }
 
-/// vpshufb zmm1, zmm2, zmm3 needs AVX512BW and no other feature.
+/// vpshufb zmm1, zmm2, zmm3 needs AVX512BW, and so what that needs.
 #[test]
 fn features_of_a_byte_form() {
     const CODE: &str = "62 F2 6D 48 00 CB";
     let accepted = run(&["decode", CODE]);
     assert_eq!(accepted.0, Some(0));
-    for features in ["63", "32", "avx512bw", "avx,AVX512BW"] {
+    for features in ["63", "37", "avx,avx512f,AVX512BW"] {
         let ran = run(&["decode", CODE, "--features", features]);
         assert_eq!(ran, accepted, "{features}");
     }
-    for features in ["31", "0", "avx512f,avx512_vbmi"] {
+    for features in ["31", "0", "avx,avx512f,avx512_vbmi"] {
         assert_refused(&["decode", CODE, "--features", features], 5);
     }
 }
@@ -294,9 +294,10 @@ fn refusals_of_the_lane_permutes() {
     // VPERMILPS with an immediate: vvvv, then VEX W.
     assert_reason("C4 E3 69 04 CA 1B", 4);
     assert_reason("C4 E3 F9 04 CA 1B", 2);
-    // vpshufb ymm1, ymm2, ymm3 needs AVX2 and not AVX.
+    // vpshufb ymm1, ymm2, ymm3 needs AVX2.
     assert_refused(&["decode", "C4 E2 6D 00 CB", "--features", "61"], 5);
-    assert!(printed(&["decode", "C4 E2 6D 00 CB", "--features", "avx2"]).starts_with("vpshufb "));
+    let decoded = printed(&["decode", "C4 E2 6D 00 CB", "--features", "avx,avx2"]);
+    assert!(decoded.starts_with("vpshufb "), "{decoded}");
 }
 
 #[test]

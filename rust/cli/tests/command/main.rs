@@ -4,6 +4,7 @@ mod address;
 mod audit;
 mod compare;
 mod decode;
+mod features;
 mod files;
 mod list;
 mod map;

@@ -91,8 +91,8 @@ fn masks_and_features_count() {
     let inline = format!("hex:{}", text.replace("# k0 first\n", ""));
     for given in [&masks, &inline] {
         let rest = ["--registers", &before, "--out", &after, "--masks", given];
-        printed(&[&["run", code, "--features", "avx512f"], &rest[..]].concat());
-        let expected = library_file(&bytes, [0, 0xF0F0, 0, 0, 0, 0, 0, u64::MAX], 4);
+        printed(&[&["run", code, "--features", "avx,avx512f"], &rest[..]].concat());
+        let expected = library_file(&bytes, [0, 0xF0F0, 0, 0, 0, 0, 0, u64::MAX], 5);
         assert_eq!(folder.read("after.bin"), expected, "{given}");
     }
     let (status, ..) = run(&["run", code, "--registers", &before, "--out", &after]);

@@ -37,6 +37,9 @@ fn help_names_every_instruction_and_feature() {
         for (name, _) in tarhuspo::features::NAMED {
             assert!(words.contains(&name), "{name} in the help of {command}");
         }
+        let help: Vec<_> = help.split_whitespace().collect();
+        let needs = "without avx there is no other, and without avx512f none of the last three";
+        assert!(help.join(" ").contains(needs), "{command}");
     }
 }
 
