@@ -5,6 +5,7 @@ use crate::compare::Comparison;
 use crate::detect::Capabilities;
 use crate::difference::{Difference, Finding};
 use crate::engine::Engine;
+use crate::features::Impossible;
 use crate::lead::Lead;
 use crate::processor::Processor;
 use crate::report::{Report, Skipped};
@@ -26,8 +27,8 @@ pub struct Options {
     /// The number of the first case.
     pub first_case: u64,
     pub limit: Limit,
-    /// What to use of the processor.
-    pub capabilities: Capabilities,
+    /// What to use of the processor, unless no processor has what it reports.
+    pub capabilities: Result<Capabilities, Impossible>,
 }
 
 impl Options {
@@ -46,6 +47,8 @@ impl Options {
 #[derive(Debug)]
 pub enum Failure {
     Difference(Box<Difference>),
+    /// The features are a set that no processor has. Nothing was compared.
+    Impossible(Impossible),
     /// The system gives no memory to execute instructions in.
     Setup(io::Error),
 }
@@ -54,6 +57,7 @@ impl fmt::Display for Failure {
     fn fmt(&self, f: &mut fmt::Formatter<'_>) -> fmt::Result {
         match self {
             Failure::Difference(difference) => difference.fmt(f),
+            Failure::Impossible(set) => write!(f, "{set}; nothing was compared"),
             Failure::Setup(error) => write!(f, "cannot execute instructions here: {error}"),
         }
     }
@@ -79,13 +83,14 @@ pub fn audit_watched(
     options: Options,
     watch: &mut dyn FnMut(Progress),
 ) -> Result<Report, Failure> {
-    let plan = Plan::new(options.capabilities);
-    let mut report = Report::new(engine.name(), options.seed, options.capabilities);
+    let capabilities = options.capabilities.map_err(Failure::Impossible)?;
+    let plan = Plan::new(capabilities);
+    let mut report = Report::new(engine.name(), options.seed, capabilities);
     report.skipped = skipped(&plan);
-    if options.capabilities.register_set().is_none() {
+    if capabilities.register_set().is_none() {
         return Ok(report);
     }
-    let processor = Processor::new(options.capabilities).map_err(Failure::Setup)?;
+    let processor = Processor::new(capabilities).map_err(Failure::Setup)?;
     let mut comparison = Comparison::new(processor);
     let start = Instant::now();
     let mut count = 0;

@@ -1,13 +1,13 @@
 //! The cases of an audit, each a function of seed and number alone.
 
 use crate::damage::{applies, damage, FIELDS};
-use crate::detect::{feature_names, Capabilities, RegisterSet};
+use crate::detect::{Capabilities, RegisterSet};
 use crate::encoding::{Fields, Third};
+use crate::features;
 use crate::random::Random;
 use crate::setting::Setting;
 use crate::shape::{Form, Shape};
 use crate::state::State;
-use reference::limits::feature;
 use reference::Field;
 
 /// One instruction and everything that it reads.
@@ -61,6 +61,8 @@ impl Case {
 /// Which shapes can be audited on this machine, and which not.
 pub struct Plan {
     apx: bool,
+    /// The features of a case are one of these, and what its shape needs.
+    sets: Vec<u8>,
     accepted: Vec<Shape>,
     damaged: Vec<(Shape, Field)>,
     pub skipped: Vec<(Form, String)>,
@@ -70,6 +72,7 @@ impl Plan {
     pub fn new(capabilities: Capabilities) -> Plan {
         let mut plan = Plan {
             apx: capabilities.apx(),
+            sets: features::possible(),
             accepted: Vec::new(),
             damaged: Vec::new(),
             skipped: Vec::new(),
@@ -112,8 +115,9 @@ impl Plan {
         let mut random = Random::for_case(seed, number);
         let (shape, field) = self.pick(number);
         let mut fields = Fields::random(shape, &mut random);
-        // Features beyond the needed ones do not matter, and for a wrong field none do.
-        let mut features = u32::from(random.below(feature::ALL as u8 + 1));
+        // Features beyond the needed ones do not matter, and for a wrong field none do. But they
+        // have to be a set that a processor can have, which two such sets together are too.
+        let mut features = u32::from(random.pick(&self.sets));
         match field {
             Some(field) => damage(&mut fields, field, self.apx, &mut random),
             None => features |= shape.needed_features(),
@@ -137,7 +141,7 @@ impl Plan {
 fn lacking(shape: Shape, capabilities: Capabilities) -> Option<String> {
     let missing = shape.needed_features() & !capabilities.features();
     if missing != 0 {
-        return Some(feature_names(missing));
+        return Some(features::names(missing));
     }
     let set = capabilities.register_set();
     let has_opmasks = set.is_some_and(RegisterSet::has_opmasks);
@@ -169,5 +173,37 @@ fn random_mask(random: &mut Random) -> u64 {
         2 => u64::MAX,
         3 => 0,
         _ => word,
+    }
+}
+
+#[cfg(test)]
+mod tests {
+    use super::Plan;
+    use crate::detect::Capabilities;
+    use crate::features::possible;
+    use std::collections::BTreeSet;
+
+    /// Each of the sets, of an encoding that is refused whatever the features are.
+    #[test]
+    fn features_of_a_case_are_possible() {
+        let capabilities = Capabilities::detect().expect("possible features");
+        if capabilities.register_set().is_none() {
+            println!("skipped: no AVX on this machine");
+            return;
+        }
+        let plan = Plan::new(capabilities);
+        let mut damaged = BTreeSet::new();
+        for case in (0..4_000).map(|number| plan.case(1, number)) {
+            let features = case.features as u8;
+            assert_eq!(u32::from(features), case.features);
+            assert!(possible().contains(&features), "{features}");
+            if case.damage.is_some() {
+                damaged.insert(features);
+                continue;
+            }
+            let lacking = case.shape.needed_features() & !case.features;
+            assert_eq!(lacking, 0, "{}", case.shape.form());
+        }
+        assert!(damaged.into_iter().eq(possible()));
     }
 }

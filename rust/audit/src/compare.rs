@@ -413,7 +413,7 @@ mod tests {
 
     /// A memory form that is carried out or refused; nothing without AVX-512.
     fn case(refused: bool) -> Option<Case> {
-        let capabilities = Capabilities::detect();
+        let capabilities = Capabilities::detect().expect("possible features");
         if capabilities.register_set() != Some(RegisterSet::Zmm32) {
             println!("skipped: no AVX-512 on this machine");
             return None;
@@ -424,7 +424,9 @@ mod tests {
     }
 
     fn comparison() -> Comparison {
-        Comparison::new(Processor::new(Capabilities::detect()).expect("pages"))
+        Comparison::new(
+            Processor::new(Capabilities::detect().expect("possible features")).expect("pages"),
+        )
     }
 
     /// Writes where an engine must not.
@@ -529,7 +531,7 @@ mod tests {
     #[test]
     fn b_with_a_register_is_refused() {
         let Some(any) = case(true) else { return };
-        let plan = Plan::new(Capabilities::detect());
+        let plan = Plan::new(Capabilities::detect().expect("possible features"));
         let cases = (any.number..).map(|number| plan.case(1, number));
         let is_changed = |case: &Case| case.fields.mask == 0 && case.features == feature::ALL;
         let mut cases = cases.filter(|case| case.has_b_with_register() && is_changed(case));

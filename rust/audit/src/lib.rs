@@ -16,11 +16,13 @@
 mod audit;
 mod case;
 mod compare;
+mod cpuid;
 mod damage;
 pub mod detect;
 mod difference;
 mod encoding;
 pub mod engine;
+mod features;
 mod guarded;
 mod lead;
 mod operand;
@@ -33,9 +35,11 @@ mod shape;
 mod state;
 
 pub use audit::{audit, audit_watched, Failure, Limit, Options, Progress};
+pub use cpuid::Words;
 pub use detect::{Capabilities, RegisterSet};
 pub use difference::{Difference, Finding};
 pub use engine::{Addressed, Answer, Engine};
+pub use features::Impossible;
 pub use lead::{Expected, Lead};
 pub use operand::{Base, Operand};
 pub use processor::{Outcome, Prepared, Processor, Sequence};

@@ -1,7 +1,8 @@
 //! A report in words.
 
 use crate::damage::field_name;
-use crate::detect::{feature_names, processor_name, RegisterSet};
+use crate::detect::{processor_name, RegisterSet};
+use crate::features;
 use crate::report::{Coverage, FormCount, Report, Skipped};
 use crate::shape::Form;
 use crate::state::{FILE_SIZE, MASKS, REGISTERS, REGISTER_SIZE};
@@ -33,7 +34,7 @@ impl Display for Report {
 
 fn write_machine(f: &mut Formatter<'_>, report: &Report, set: RegisterSet) -> Result {
     let capabilities = report.capabilities;
-    let features = feature_names(capabilities.features());
+    let features = features::names(capabilities.features());
     writeln!(f, "processor: {} ({features})", processor_name())?;
     if set == RegisterSet::Ymm16 {
         writeln!(f, "no AVX-512 here: only VEX forms, on registers 0 to 15")?;

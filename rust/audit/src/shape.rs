@@ -1,5 +1,6 @@
 //! The audit's own instruction table, and the shapes of encodings that it has.
 
+use crate::features::closed;
 use reference::limits::feature;
 use std::fmt;
 
@@ -166,14 +167,15 @@ impl Shape {
         }
     }
 
-    /// Feature bits without which the instruction is refused.
+    /// The features of every processor that has the instruction: those that it needs, and what
+    /// they need.
     pub fn needed_features(self) -> u32 {
-        match (self.prefix, self.width) {
+        closed(match (self.prefix, self.width) {
             (Prefix::Evex, 2) => self.row.evex_512,
             (Prefix::Evex, _) => self.row.evex_512 | feature::AVX512VL,
             (_, 1) => self.row.vex_256,
             _ => feature::AVX,
-        }
+        })
     }
 }
 

@@ -2,8 +2,8 @@
 
 mod tools;
 
-use audit::{engine, Addressed, Answer, Capabilities, Engine, Finding, Form};
-use audit::{Options, Report, Skipped};
+use audit::{audit, engine, Addressed, Answer, Capabilities, Engine, Failure, Finding, Form};
+use audit::{Options, Report, Skipped, Words};
 use reference::limits::feature;
 use reference::{decode, Decoded, Field};
 use tools::{caught, has_all_registers, options, passed, ENOUGH};
@@ -117,7 +117,7 @@ fn forms_that_the_processor_lacks_are_skipped() {
         (feature::AVX512_VBMI, "VPERMB", "avx512_vbmi"),
         (feature::AVX512BW, "VPSHUFB", "avx512bw"),
     ] {
-        let capabilities = Capabilities::detect().without(feature);
+        let capabilities = Capabilities::detect().map(|found| found.without(feature));
         let report = passed(
             &mut engine::reference(),
             Options {
@@ -144,13 +144,15 @@ fn forms_that_the_processor_lacks_are_skipped() {
 /// The part for processors with AVX alone: 16 registers of 32 bytes.
 #[test]
 fn vex_forms_are_compared_without_avx512() {
-    let capabilities = Capabilities::detect().without(feature::ALL - feature::AVX - feature::AVX2);
+    let capabilities = Capabilities::detect()
+        .expect("possible features")
+        .without(feature::ALL - feature::AVX - feature::AVX2);
     if capabilities.register_set().is_none() {
         println!("skipped: no AVX on this machine");
         return;
     }
     let narrow = Options {
-        capabilities,
+        capabilities: Ok(capabilities),
         ..options(10_000)
     };
     let report = passed(&mut engine::reference(), narrow);
@@ -168,7 +170,7 @@ fn vex_forms_are_compared_without_avx512() {
 
 #[test]
 fn nothing_is_compared_without_avx() {
-    let capabilities = Capabilities::detect().without(feature::ALL);
+    let capabilities = Capabilities::detect().map(|found| found.without(feature::ALL));
     let report = passed(
         &mut engine::reference(),
         Options {
@@ -178,6 +180,82 @@ fn nothing_is_compared_without_avx() {
     );
     assert_eq!((report.steps(), report.refused_cases()), (0, 0));
     assert!(report.to_string().contains("nothing was compared"));
+}
+
+/// CPUID's words for AVX, with everything switched on.
+const AVX_ALONE: Words = Words {
+    leaf_1_ecx: 1 << 28,
+    leaf_7_ebx: 0,
+    leaf_7_ecx: 0,
+    leaf_7_1_edx: 0,
+    xcr0: 0xE7,
+};
+
+/// What the processor has is not used if CPUID does not report it, or XCR0 has it off.
+#[test]
+fn hidden_features_are_not_used() {
+    if !has_all_registers() {
+        return;
+    }
+    // AVX2, AVX512F and AVX512BW.
+    let wide = Words {
+        leaf_7_ebx: 1 << 5 | 1 << 16 | 1 << 30,
+        ..AVX_ALONE
+    };
+    let forms = |words: Words| {
+        let capabilities = Capabilities::detect_as(&words);
+        let options = Options {
+            capabilities,
+            ..options(2_000)
+        };
+        let report = passed(&mut engine::reference(), options);
+        report.forms.into_keys().collect::<Vec<_>>()
+    };
+    let is_hidden = |form: &Form| form.name == "VPERMB" || form.is_evex && form.bits < 512;
+    let found = forms(wide);
+    assert!(!found.iter().any(is_hidden), "{found:?}");
+    assert_eq!(found.iter().filter(|form| form.is_evex).count(), 8);
+    let found = forms(Words { xcr0: 7, ..wide });
+    assert!(found.iter().all(|form| !form.is_evex), "{found:?}");
+}
+
+/// An engine that is not to be asked anything.
+struct Unasked;
+
+impl Engine for Unasked {
+    fn name(&self) -> &str {
+        "not asked"
+    }
+
+    fn address(&mut self, _: &[u8], _: u32, _: &[u64], _: u64) -> Addressed {
+        panic!("asked for an address")
+    }
+
+    fn step(&mut self, _: &[u8], _: &mut [u8], _: &[u64], _: u32, _: &[u8]) -> Answer {
+        panic!("asked for a step")
+    }
+}
+
+/// A hypervisor may report what no processor has.
+#[test]
+fn impossible_features_are_a_failure() {
+    let words = Words {
+        leaf_7_ebx: 1 << 31,
+        ..AVX_ALONE
+    };
+    let options = Options {
+        capabilities: Capabilities::detect_as(&words),
+        ..options(100)
+    };
+    match audit(&mut Unasked, options) {
+        Err(failure @ Failure::Impossible(_)) => assert_eq!(
+            failure.to_string(),
+            "CPUID reports avx512vl without avx512f: no processor has such a set, and the library \
+             refuses it with status 1; nothing was compared"
+        ),
+        Err(failure) => panic!("{failure}"),
+        Ok(report) => panic!("{report}"),
+    }
 }
 
 /// Wrong in a single bit of one byte of the file.

@@ -69,7 +69,10 @@ fn sum() -> f64 {
 }
 
 fn has_avx() -> bool {
-    let has = Capabilities::detect().register_set().is_some();
+    let has = Capabilities::detect()
+        .expect("possible features")
+        .register_set()
+        .is_some();
     if !has {
         println!("skipped: no AVX on this machine");
     }
@@ -80,7 +83,8 @@ fn has_avx() -> bool {
 fn run_many() {
     let options = Options::new(7, Limit::Steps(20_000));
     audit(&mut engine::reference(), options).expect("no difference");
-    let mut processor = Processor::new(Capabilities::detect()).expect("pages");
+    let mut processor =
+        Processor::new(Capabilities::detect().expect("possible features")).expect("pages");
     for _ in 0..1_000 {
         // vpshufd xmm1, [rax], 0x1b without memory
         let outcome = processor.run(&[0xC5, 0xF9, 0x70, 0x08, 0x1B], &State::ZERO, &[]);

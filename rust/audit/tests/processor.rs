@@ -11,7 +11,7 @@ use reference::limits::feature;
 
 /// A processor with all registers, or one line that says why not.
 fn processor() -> Option<Processor> {
-    let capabilities = Capabilities::detect();
+    let capabilities = Capabilities::detect().expect("possible features");
     let has_all = capabilities.features() == feature::ALL
         && capabilities.register_set() == Some(RegisterSet::Zmm32);
     if !has_all {
@@ -43,7 +43,9 @@ fn detection_agrees_with_the_standard_library() {
         (feature::AVX512_VBMI, is_x86_feature_detected!("avx512vbmi")),
         (feature::AVX512BW, is_x86_feature_detected!("avx512bw")),
     ];
-    let features = Capabilities::detect().features();
+    let features = Capabilities::detect()
+        .expect("possible features")
+        .features();
     for (bit, has) in expected {
         assert_eq!(features & bit != 0, has, "feature bit {bit}");
     }

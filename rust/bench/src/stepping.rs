@@ -26,7 +26,8 @@ struct Steps {
 /// Prints the table. An error says where results differ.
 pub fn print() -> Result<(), String> {
     print_head();
-    let mut processor = Processor::new(Capabilities::detect()).ok();
+    let capabilities = Capabilities::detect().ok();
+    let mut processor = capabilities.and_then(|capabilities| Processor::new(capabilities).ok());
     for form in measured_forms() {
         let steps = Steps::new(form);
         if !steps.agree(processor.as_mut()) {

@@ -103,7 +103,7 @@ impl Line {
 mod tests {
     use super::{closing, Failure};
     use ::audit::engine::Function;
-    use ::audit::{audit, Addressed, Answer, Capabilities, Limit, Options};
+    use ::audit::{audit, Addressed, Answer, Capabilities, Limit, Options, Words};
 
     /// An engine that refuses everything.
     fn refusing() -> Function {
@@ -125,7 +125,8 @@ mod tests {
 
     #[test]
     fn a_difference_is_told_with_all_that_repeats_it() {
-        if Capabilities::detect().register_set().is_none() {
+        let capabilities = Capabilities::detect().expect("possible features");
+        if capabilities.register_set().is_none() {
             println!("skipped: no AVX on this machine");
             return;
         }
@@ -156,7 +157,7 @@ mod tests {
     /// Otherwise a machine that can compare nothing would pass.
     #[test]
     fn nothing_compared_is_no_success() {
-        let capabilities = Capabilities::detect().without(u32::MAX);
+        let capabilities = Capabilities::detect().map(|found| found.without(u32::MAX));
         let options = Options {
             capabilities,
             ..Options::new(1, Limit::Steps(5))
@@ -165,5 +166,36 @@ mod tests {
             panic!("nothing was compared");
         };
         assert!(expected.contains("nothing was compared"), "{expected}");
+    }
+
+    /// CPUID's bits for features that no processor has, as a hypervisor may report them.
+    #[test]
+    fn impossible_features_are_told_in_words() {
+        const AVX: u32 = 1 << 28;
+        for (leaf_1_ecx, leaf_7_ebx, leaf_7_ecx, reported) in [
+            (AVX, 1 << 31, 0, "avx512vl without avx512f"),
+            (AVX, 1 << 5, 1 << 1, "avx512_vbmi without avx512f"),
+            (0, 1 << 5, 0, "avx2 without avx"),
+            (0, 1 << 30, 0, "avx512bw without avx, avx512f"),
+            (0, 1 << 5 | 1 << 16, 0, "avx2, avx512f without avx"),
+        ] {
+            let words = Words {
+                leaf_1_ecx,
+                leaf_7_ebx,
+                leaf_7_ecx,
+                xcr0: 0xE7,
+                ..Words::default()
+            };
+            let options = Options {
+                capabilities: Capabilities::detect_as(&words),
+                ..Options::new(1, Limit::Steps(5))
+            };
+            let Err(Failure::Usage(told)) = closing(audit(&mut refusing(), options)) else {
+                panic!("{reported}: nothing was compared");
+            };
+            let why = "no processor has such a set, and the library refuses it with status 1";
+            let expected = format!("CPUID reports {reported}: {why}; nothing was compared");
+            assert_eq!(told, expected);
+        }
     }
 }

@@ -121,10 +121,16 @@ mod tests {
             (9, "avx512vl needs avx512f"),
             (17, "avx512_vbmi needs avx512f"),
             (33, "avx512bw needs avx512f"),
-            (56, "avx512vl, avx512_vbmi and avx512bw need avx512f, which needs avx"),
+            (
+                56,
+                "avx512vl, avx512_vbmi and avx512bw need avx512f, which needs avx",
+            ),
             (59, "avx512vl, avx512_vbmi and avx512bw need avx512f"),
             (62, "avx2 and avx512f need avx"),
-            (42, "avx2 needs avx; avx512vl and avx512bw need avx512f, which needs avx"),
+            (
+                42,
+                "avx2 needs avx; avx512vl and avx512bw need avx512f, which needs avx",
+            ),
         ] {
             assert_eq!(lacking(set), words, "{set}");
         }

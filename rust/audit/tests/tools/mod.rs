@@ -14,7 +14,10 @@ pub fn options(steps: u64) -> Options {
 
 /// Whether the processor has all registers. If not, one line says so.
 pub fn has_all_registers() -> bool {
-    let has = Capabilities::detect().register_set() == Some(RegisterSet::Zmm32);
+    let has = Capabilities::detect()
+        .expect("possible features")
+        .register_set()
+        == Some(RegisterSet::Zmm32);
     if !has {
         println!("skipped: no AVX-512 on this machine");
     }

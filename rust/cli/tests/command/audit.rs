@@ -5,7 +5,10 @@ use audit::Capabilities;
 
 /// Whether this machine can compare anything. If not, one line says so.
 fn has_avx() -> bool {
-    let has = Capabilities::detect().register_set().is_some();
+    let has = Capabilities::detect()
+        .expect("possible features")
+        .register_set()
+        .is_some();
     if !has {
         println!("skipped: no AVX on this machine");
     }

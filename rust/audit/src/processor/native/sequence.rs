@@ -65,7 +65,7 @@ mod tests {
 
     /// A processor with all registers. If there is none, one line says so.
     fn processor() -> Option<Processor> {
-        let capabilities = Capabilities::detect();
+        let capabilities = Capabilities::detect().expect("possible features");
         if capabilities.register_set() != Some(RegisterSet::Zmm32) {
             println!("skipped: no AVX-512 on this machine");
             return None;
@@ -74,7 +74,7 @@ mod tests {
     }
 
     fn register_forms(count: u64) -> Vec<Case> {
-        let plan = Plan::new(Capabilities::detect());
+        let plan = Plan::new(Capabilities::detect().expect("possible features"));
         let cases = (0..count).map(|number| plan.case(3, number));
         let is_wanted =
             |case: &Case| case.damage.is_none() && case.shape.operand == Operand::Register;
