@@ -172,13 +172,14 @@ mod tests {
     #[test]
     fn impossible_features_are_told_in_words() {
         const AVX: u32 = 1 << 28;
-        for (leaf_1_ecx, leaf_7_ebx, leaf_7_ecx, reported) in [
-            (AVX, 1 << 31, 0, "avx512vl without avx512f"),
-            (AVX, 1 << 5, 1 << 1, "avx512_vbmi without avx512f"),
-            (0, 1 << 5, 0, "avx2 without avx"),
-            (0, 1 << 30, 0, "avx512bw without avx, avx512f"),
-            (0, 1 << 5 | 1 << 16, 0, "avx2, avx512f without avx"),
+        for (set, leaf_1_ecx, leaf_7_ebx, leaf_7_ecx, reported) in [
+            (9, AVX, 1 << 31, 0, "avx512vl without avx512f"),
+            (19, AVX, 1 << 5, 1 << 1, "avx512_vbmi without avx512f"),
+            (2, 0, 1 << 5, 0, "avx2 without avx"),
+            (32, 0, 1 << 30, 0, "avx512bw without avx, avx512f"),
+            (6, 0, 1 << 5 | 1 << 16, 0, "avx2, avx512f without avx"),
         ] {
+            assert!(!tarhuspo::features::possible(set), "{reported}");
             let words = Words {
                 leaf_1_ecx,
                 leaf_7_ebx,
