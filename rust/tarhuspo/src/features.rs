@@ -20,8 +20,6 @@
 //! A set that no processor has is refused with status 1, before anything else is looked at:
 //! [`possible`] says which sets there are.
 
-use crate::decode;
-
 /// 128- and 256-bit VEX instructions.
 pub const AVX: u32 = 1 << 0;
 /// 256-bit VEX integer instructions.
@@ -79,9 +77,8 @@ pub const NAMED: [(&str, u32); 6] = [
 /// assert_eq!((stepped.status, file), (1, [1; FILE_SIZE]));
 /// ```
 pub fn possible(features: u32) -> bool {
-    // The library itself is asked. Of no bytes it has nothing to say but 1 or, if the features
-    // pass, 2.
-    decode(&[], features).status != 1
+    // The library itself is asked: decoding no bytes is 1, or 2 if the features pass.
+    crate::decode(&[], features).status != 1
 }
 
 #[cfg(test)]
