@@ -27,21 +27,29 @@ pub struct Words {
 impl Words {
     /// The features that can be used: CPUID reports them, and XCR0 has the state that they need.
     ///
-    /// XCR0 makes no set impossible. It switches off all of AVX-512, or, since the ZMM state
-    /// includes the YMM state, all features: with a feature goes everything that needs it. So an
-    /// error is what CPUID itself reports, as a hypervisor may have it.
+    /// An error is what CPUID itself reports, as a hypervisor may have it, whatever is switched on
+    /// of it. XCR0 makes no set impossible: it switches off all of AVX-512, or, since the ZMM state
+    /// includes the YMM state, all features, and with a feature goes everything that needs it.
     pub fn features(&self) -> Result<u32, Impossible> {
-        let ymm = self.has_state(YMM_STATE);
-        let zmm = self.has_state(ZMM_STATE);
+        let reported = checked(self.reported())?;
+        let on = match (self.has_state(ZMM_STATE), self.has_state(YMM_STATE)) {
+            (true, _) => feature::ALL,
+            (false, true) => feature::AVX | feature::AVX2,
+            (false, false) => 0,
+        };
+        Ok(reported & on)
+    }
+
+    fn reported(&self) -> u32 {
         let found = [
-            (feature::AVX, ymm && bit(self.leaf_1_ecx, 28)),
-            (feature::AVX2, ymm && bit(self.leaf_7_ebx, 5)),
-            (feature::AVX512F, zmm && bit(self.leaf_7_ebx, 16)),
-            (feature::AVX512VL, zmm && bit(self.leaf_7_ebx, 31)),
-            (feature::AVX512_VBMI, zmm && bit(self.leaf_7_ecx, 1)),
-            (feature::AVX512BW, zmm && bit(self.leaf_7_ebx, 30)),
+            (feature::AVX, bit(self.leaf_1_ecx, 28)),
+            (feature::AVX2, bit(self.leaf_7_ebx, 5)),
+            (feature::AVX512F, bit(self.leaf_7_ebx, 16)),
+            (feature::AVX512VL, bit(self.leaf_7_ebx, 31)),
+            (feature::AVX512_VBMI, bit(self.leaf_7_ecx, 1)),
+            (feature::AVX512BW, bit(self.leaf_7_ebx, 30)),
         ];
-        checked(found.iter().filter(|(_, has)| *has).map(|(f, _)| f).sum())
+        found.iter().filter(|(_, has)| *has).map(|(f, _)| f).sum()
     }
 
     pub fn has_apx(&self) -> bool {
@@ -177,20 +185,18 @@ mod tests {
         }
     }
 
-    /// Either an error, with what is on, or a set that is possible because the rest is off.
+    /// Also if what is wrong with it is switched off: CPUID is what is looked at.
     #[test]
     fn an_impossible_set_is_an_error() {
         let mut errors = 0;
         for xcr0 in states() {
             for set in 0..=feature::ALL {
                 let found = reporting(set, xcr0).features();
-                assert_eq!(found, checked(set & left_on(xcr0)));
-                errors += u32::from(found.is_err());
+                assert_eq!(found.err(), checked(set).err(), "{set}, XCR0 {xcr0:#x}");
+                errors += usize::from(found.is_err());
             }
         }
-        // With all on, in 3 states, 45 sets are impossible. With AVX-512 alone off, in 21 more,
-        // the 16 sets are that have AVX2 but not AVX.
-        assert_eq!(errors, 3 * 45 + 21 * 16);
+        assert_eq!(errors, 45 * states().count());
     }
 
     #[test]
