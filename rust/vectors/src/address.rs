@@ -31,7 +31,7 @@ pub const KINDS: [Kind<Address>; 21] = [
     ("number of registers", 700, register_count),
     ("impossible features", 450, impossible_features),
     ("features over 63", 200, unknown_features),
-    ("any features", 750, any_features),
+    ("any set that passes", 750, any_features),
     ("one bit flipped", 1_500, flipped),
     ("one byte replaced", 500, replaced),
     ("cut", 500, cut),

@@ -18,7 +18,7 @@ pub struct Decode {
 pub const KINDS: [Kind<Decode>; 16] = [
     ("accepted", 5_700, accepted),
     ("bytes behind", 1_500, bytes_behind),
-    ("any features", 2_200, any_features),
+    ("any set that passes", 2_200, any_features),
     ("impossible features", 500, impossible_features),
     ("features over 63", 400, unknown_features),
     ("one bit flipped", 3_000, flipped),

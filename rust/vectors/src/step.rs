@@ -28,7 +28,7 @@ pub const KINDS: [Kind<Step>; 20] = [
     ("number of opmasks", 500, mask_count),
     ("impossible features", 450, impossible_features),
     ("features over 63", 300, unknown_features),
-    ("any features", 1_250, any_features),
+    ("any set that passes", 1_250, any_features),
     ("one bit flipped", 1_500, flipped),
     ("one byte replaced", 500, replaced),
     ("cut", 500, cut),

@@ -1,4 +1,4 @@
-//! Every number of features up to 63 has inputs: the sets that pass, most of them, and the others.
+//! Every feature number up to 63 has inputs, and most inputs have a set that passes.
 
 use inputs::feature_sets::passes;
 use inputs::limits::features::ALL;
@@ -19,7 +19,10 @@ fn expect_numbers<I>(what: &str, samples: &Samples<I>, features: fn(&I) -> u32) 
     let passing = count(passes);
     let impossible = count(|number| number <= ALL && !passes(number));
     let unknown = count(|number| number > ALL);
-    println!("{what}: {passing} with features that pass, {impossible} with others up to 63, {unknown} over 63");
+    println!(
+        "{what}: {passing} with features that pass, {impossible} with others up to 63, \
+         {unknown} over 63"
+    );
     assert!(impossible.min(unknown) >= LEAST_OF_EACH && passing > 10 * (impossible + unknown));
 }
 
