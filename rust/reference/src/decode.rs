@@ -96,7 +96,7 @@ impl Instruction {
 
 /// Decodes the instruction at the start of `code`; later bytes do not count.
 pub fn decode(code: &[u8], features: u32) -> Decoded {
-    match parse(code, features) {
+    match check_and_parse(code, features) {
         Ok(instruction) => decoded(&instruction),
         Err(refusal) => Decoded {
             status: refusal.number(),
@@ -108,7 +108,7 @@ pub fn decode(code: &[u8], features: u32) -> Decoded {
 
 /// The first wrong field of an instruction that answers 4.
 pub fn reserved_field(code: &[u8], features: u32) -> Option<Field> {
-    match parse(code, features) {
+    match check_and_parse(code, features) {
         Err(Refusal::Reserved(field)) => Some(field),
         _ => None,
     }
@@ -139,8 +139,13 @@ fn decoded(instruction: &Instruction) -> Decoded {
 }
 
 /// Decodes in the order of document 01's "Order for a step", 1 to 5.
-pub(crate) fn parse(code: &[u8], features: u32) -> Result<Instruction, Refusal> {
+fn check_and_parse(code: &[u8], features: u32) -> Result<Instruction, Refusal> {
     check_features(features)?;
+    parse(code, features)
+}
+
+/// The same without 1, for callers that have looked at the features.
+pub(crate) fn parse(code: &[u8], features: u32) -> Result<Instruction, Refusal> {
     let prefix = Prefix::read(code)?;
     let row = find(&prefix).ok_or(Refusal::NoRow)?;
     let tail = Tail::read(&code[prefix.length..], row.has_immediate)?;

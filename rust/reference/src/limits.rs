@@ -43,10 +43,6 @@ pub(crate) fn check_features(features: u32) -> Result<(), Refusal> {
 
 /// Request 6: whether there is any other bit without AVX, or one of the three that extend AVX512F
 /// without AVX512F.
-///
-/// A call of its own: where it is inlined, the compiler lays out the decoder so that it takes 1.4 times
-/// as long, and the benchmark, which measures the library by this decoder, would flatter the library.
-#[inline(never)]
 fn lacks_another(features: u32) -> bool {
     let has = |bits: u32| features & bits != 0;
     let extends_f = feature::AVX512VL | feature::AVX512_VBMI | feature::AVX512BW;
