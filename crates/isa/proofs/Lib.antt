@@ -2,6 +2,7 @@
 pub mod Bits
 pub mod Sizes
 pub mod Reasons
+pub mod Passing
 mod Grid
 mod Search
 pub mod Rule
