@@ -2,8 +2,8 @@
 use Prim.Native.Nat.{ℕ, _<_}
 use mathlib.Core.Path.{_≡_}
 use mathlib.Core.Bool.{false}
-use borrow.Author.Tests.{lt-leb}
+use borrow.Author.Tests.{lt-ltb}
 use Rattle.isa.specs.Features.{allFeatures, featuresKnown}
 
 pub none-above : (number : ℕ) → allFeatures < number → featuresKnown number ≡ false
-none-above number h = rw (lt-leb number allFeatures h)
+none-above number h = rw (lt-ltb allFeatures number h)

@@ -8,10 +8,8 @@ known-spec =
     tie.close
     (tie.spec
     (λ c. search (needs, cases) depth 12)
-    (λ c. search (needs, cases) depth 12)
-    (λ c κs. search needs)
-    (λ c κs. search needs)
     (λ c κs. search needs)
     (λ c. search (needs, cases) depth 12)
+    (λ c κs. search needs)
     (λ c. search (needs, cases) depth 12)
     (λ c. search (needs, cases) depth 12))
