@@ -195,7 +195,25 @@ FEATURE_SETS = [
     (13, "62 F1 7D 28 70 CA 1B", accepted(7, 0, 1, turned(2, 0) + turned(2, 1) + zeros(32))),
 ]
 
-CASES = [(31, code, result) for code, result in BASE] + MORE + [(63, code, result) for code, result in RESERVED] + FEATURE_SETS
+# Request 7: of P bit 3 is fixed and bits 2:0 are the map; of Q bit 2 is fixed. P bit 3 by itself is the first case of request 3.
+MAPS = [
+    # Maps 5, 4 and 0.
+    ("62 F5 7D 48 70 CA 1B", refused(3)),
+    ("62 F4 7D 48 70 CA 1B", refused(3)),
+    ("62 F0 7D 48 70 CA 1B", refused(3)),
+    # Bit 2 of Q is 0.
+    ("62 F1 79 48 70 CA 1B", wrong(FIXED_BITS)),
+    # Map 5 with bit 3 of P, and with bit 2 of Q.
+    ("62 FD 7D 48 70 CA 1B", wrong(FIXED_BITS)),
+    ("62 F5 79 48 70 CA 1B", wrong(FIXED_BITS)),
+]
+
+
+def under(features, cases):
+    return [(features, code, result) for code, result in cases]
+
+
+CASES = under(31, BASE) + MORE + under(63, RESERVED) + FEATURE_SETS + under(63, MAPS)
 
 # Controls for a lane. Every lane of register 3 and of memory has them, in both files.
 

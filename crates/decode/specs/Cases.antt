@@ -268,8 +268,8 @@ requestedCases =
     ∷ []
 
 -- request 3, cases 31 to 44: the fixed bits and W by themselves, as the other fields are in the cases above; then two wrong fields at once, every pair
--- that there is. W is wrong only under VEX, which has neither fixed bits nor b nor z. Then the other two fixed bits; all five fields of EVEX, and all but
--- the first; the same bytes cut behind the opcode, before it, and before the immediate; and without any feature, and with features over the limit
+-- that there is. W is wrong only under VEX, which has neither fixed bits nor b nor z. Then all five fields of EVEX, and all but the first; the same
+-- bytes cut behind the opcode, before it, and before the immediate; and without any feature, and with features over the limit
 unfoldable pub reservedCases : List Case
 reservedCases =
     case (0x62 ∷ 0xF9 ∷ 0x7D ∷ 0x48 ∷ 0x70 ∷ 0xCA ∷ 0x1B ∷ []) 63 4 (wrong FixedBits)
@@ -286,8 +286,6 @@ reservedCases =
     ∷ case (0x62 ∷ 0xF1 ∷ 0x75 ∷ 0x58 ∷ 0x70 ∷ 0xCA ∷ 0x1B ∷ []) 63 4 (wrong Vvvv)
     ∷ case (0x62 ∷ 0xF1 ∷ 0x75 ∷ 0xC8 ∷ 0x70 ∷ 0xCA ∷ 0x1B ∷ []) 63 4 (wrong Vvvv)
     ∷ case (0x62 ∷ 0xF1 ∷ 0x7D ∷ 0xD8 ∷ 0x70 ∷ 0xCA ∷ 0x1B ∷ []) 63 4 (wrong Broadcast)
-    ∷ case (0x62 ∷ 0xF5 ∷ 0x7D ∷ 0x48 ∷ 0x70 ∷ 0xCA ∷ 0x1B ∷ []) 63 4 (wrong FixedBits)
-    ∷ case (0x62 ∷ 0xF1 ∷ 0x79 ∷ 0x48 ∷ 0x70 ∷ 0xCA ∷ 0x1B ∷ []) 63 4 (wrong FixedBits)
     ∷ case (0x62 ∷ 0xF9 ∷ 0x75 ∷ 0xF8 ∷ 0x70 ∷ 0xCA ∷ 0x1B ∷ []) 63 4 (wrong FixedBits)
     ∷ case (0x62 ∷ 0xF1 ∷ 0x75 ∷ 0xF8 ∷ 0x70 ∷ 0xCA ∷ 0x1B ∷ []) 63 4 (wrong WidthField)
     ∷ case (0x62 ∷ 0xF9 ∷ 0x75 ∷ 0xF8 ∷ 0x70 ∷ []) 63 4 (wrong FixedBits)
@@ -319,6 +317,34 @@ featureSetCases =
     ∷ case (0xC5 ∷ 0xF9 ∷ 0x70 ∷ 0xCA ∷ 0x1B ∷ []) 65 1 (Refused Argument)
     ∷ case (0xC5 ∷ 0xF9 ∷ 0x70 ∷ 0xCA ∷ 0x1B ∷ []) 4294967295 1 (Refused Argument)
     ∷ case [] 0 2 (Refused Truncated)
+    ∷ []
+
+-- request 7, cases 55 to 60: VPSHUFD's opcode in maps 5, 4 and 0; Q bit 2; and either fixed bit with map 5. P bit 3 by itself is case 31. Then maps 6 and
+-- 7 with opcodes that are rows of maps 2 and 3; the opcodes of maps 1 to 3, each in another of them; C4 with maps 11 and 19; pp 3 under each prefix; map 5
+-- with every other field wrong; map 5 cut before the opcode, and behind it; and under other features
+unfoldable pub mapCases : List Case
+mapCases =
+    case (0x62 ∷ 0xF5 ∷ 0x7D ∷ 0x48 ∷ 0x70 ∷ 0xCA ∷ 0x1B ∷ []) 63 3 (Refused Unlisted)
+    ∷ case (0x62 ∷ 0xF4 ∷ 0x7D ∷ 0x48 ∷ 0x70 ∷ 0xCA ∷ 0x1B ∷ []) 63 3 (Refused Unlisted)
+    ∷ case (0x62 ∷ 0xF0 ∷ 0x7D ∷ 0x48 ∷ 0x70 ∷ 0xCA ∷ 0x1B ∷ []) 63 3 (Refused Unlisted)
+    ∷ case (0x62 ∷ 0xF1 ∷ 0x79 ∷ 0x48 ∷ 0x70 ∷ 0xCA ∷ 0x1B ∷ []) 63 4 (wrong FixedBits)
+    ∷ case (0x62 ∷ 0xFD ∷ 0x7D ∷ 0x48 ∷ 0x70 ∷ 0xCA ∷ 0x1B ∷ []) 63 4 (wrong FixedBits)
+    ∷ case (0x62 ∷ 0xF5 ∷ 0x79 ∷ 0x48 ∷ 0x70 ∷ 0xCA ∷ 0x1B ∷ []) 63 4 (wrong FixedBits)
+    ∷ case (0x62 ∷ 0xF6 ∷ 0x6D ∷ 0x48 ∷ 0x8D ∷ 0xCB ∷ []) 63 3 (Refused Unlisted)
+    ∷ case (0x62 ∷ 0xF7 ∷ 0xFD ∷ 0x48 ∷ 0x05 ∷ 0xCA ∷ 0x05 ∷ []) 63 3 (Refused Unlisted)
+    ∷ case (0x62 ∷ 0xF2 ∷ 0x7D ∷ 0x48 ∷ 0x70 ∷ 0xCA ∷ 0x1B ∷ []) 63 3 (Refused Unlisted)
+    ∷ case (0x62 ∷ 0xF3 ∷ 0x6D ∷ 0x48 ∷ 0x8D ∷ 0xCB ∷ []) 63 3 (Refused Unlisted)
+    ∷ case (0x62 ∷ 0xF1 ∷ 0xFD ∷ 0x48 ∷ 0x05 ∷ 0xCA ∷ 0x05 ∷ []) 63 3 (Refused Unlisted)
+    ∷ case (0xC4 ∷ 0xEB ∷ 0x7D ∷ 0x05 ∷ 0xCA ∷ 0x05 ∷ []) 63 3 (Refused Unlisted)
+    ∷ case (0xC4 ∷ 0xF3 ∷ 0x7D ∷ 0x05 ∷ 0xCA ∷ 0x05 ∷ []) 63 3 (Refused Unlisted)
+    ∷ case (0xC5 ∷ 0xFB ∷ 0x70 ∷ 0xCA ∷ 0x1B ∷ []) 63 3 (Refused Unlisted)
+    ∷ case (0xC4 ∷ 0xE3 ∷ 0x7F ∷ 0x05 ∷ 0xCA ∷ 0x05 ∷ []) 63 3 (Refused Unlisted)
+    ∷ case (0x62 ∷ 0xF1 ∷ 0x7F ∷ 0x48 ∷ 0x70 ∷ 0xCA ∷ 0x1B ∷ []) 63 3 (Refused Unlisted)
+    ∷ case (0x62 ∷ 0xF5 ∷ 0x75 ∷ 0xF8 ∷ 0x70 ∷ 0xCA ∷ 0x1B ∷ []) 63 3 (Refused Unlisted)
+    ∷ case (0x62 ∷ 0xF5 ∷ 0x7D ∷ 0x48 ∷ []) 63 2 (Refused Truncated)
+    ∷ case (0x62 ∷ 0xF5 ∷ 0x7D ∷ 0x48 ∷ 0x70 ∷ []) 63 3 (Refused Unlisted)
+    ∷ case (0x62 ∷ 0xF5 ∷ 0x7D ∷ 0x48 ∷ 0x70 ∷ 0xCA ∷ 0x1B ∷ []) 0 3 (Refused Unlisted)
+    ∷ case (0x62 ∷ 0xF5 ∷ 0x7D ∷ 0x48 ∷ 0x70 ∷ 0xCA ∷ 0x1B ∷ []) 64 1 (Refused Argument)
     ∷ []
 
 -- every case decodes as it says, and its answer has its number
@@ -355,3 +381,7 @@ reserved-decode = (refl, refl)
 pub feature-sets-decode : Decodes featureSetCases
 unfolding featureSetCases decodeOf knownOf onHead onRow onTotal finishOf headOf prefixSize prefixOf fixedBits rows findIn matchesRow matchesW sibSize displacementSize checkOf wrongW wrongWidth wrongVvvv wrongBroadcast wrongZeroing enoughOf neededOf hasFeature instructionOf encodingOf firstOf thirdOf immediateOf widthOf elementOf digitsOf halfOf moveFrom controlOf
 feature-sets-decode = (refl, refl)
+
+pub map-decode : Decodes mapCases
+unfolding mapCases decodeOf knownOf onHead onRow onTotal finishOf headOf prefixSize prefixOf fixedBits rows findIn matchesRow matchesW sibSize displacementSize checkOf wrongW wrongWidth wrongVvvv wrongBroadcast wrongZeroing enoughOf neededOf hasFeature instructionOf encodingOf firstOf thirdOf immediateOf widthOf elementOf digitsOf halfOf moveFrom controlOf
+map-decode = (refl, refl)

@@ -107,7 +107,7 @@ fn evex(p: u8, q: u8, s: u8) -> Prefix
         x: 1 - p / 64 % 2,
         b: 1 - p / 32 % 2,
         v: 15 - q / 8 % 16 + 16 * (1 - s / 8 % 2),
-        map: p % 4,
+        map: p % 8,
         pp: q % 4,
         w: q / 128 % 2,
         width: s / 32 % 4,
@@ -136,8 +136,8 @@ fn fixed_bits(b0: u8, p: u8, q: u8) -> bool
     if b0 != 0x62 {
         return true;
     }
-    let zeros = p / 4 % 4;
-    if zeros != 0 {
+    let zero = p / 8 % 2;
+    if zero != 0 {
         return false;
     }
     let one = q / 4 % 2;

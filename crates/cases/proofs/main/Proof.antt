@@ -4,10 +4,10 @@ use Rattle.cases.proofs.main.Statement.{statement}
 use Rattle.cases.proofs.main.Tie as tie
 
 abbrev Inv-loop : tie.InvT-loop
-Inv-loop i₀ t2 i = i ≤ 54
+Inv-loop i₀ t2 i = i ≤ 60
 
 abbrev μ-loop : tie.MeasureT-loop
-μ-loop i₀ t2 i = 54 - i
+μ-loop i₀ t2 i = 60 - i
 
 pub main-spec : {M : Type 1} → statement M
 main-spec =
