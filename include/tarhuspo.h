@@ -33,7 +33,7 @@ extern "C" {
  * size or limit, an answer that changes for some input. MINOR moves when something is only added: a
  * function, a constant, an instruction that status 3 refused before.
  */
-#define TARHUSPO_VERSION_MAJOR 5
+#define TARHUSPO_VERSION_MAJOR 6
 #define TARHUSPO_VERSION_MINOR 0
 
 /*
@@ -55,7 +55,7 @@ extern "C" {
  * The reason of status 4: the reserved field that is wrong. These say what the field must be. Where
  * several fields are wrong, the lowest number is given; with every other status the reason is 0.
  */
-/* EVEX: bits 3 and 2 of the second byte are 0, and bit 2 of the third is 1. */
+/* EVEX: bit 3 of the second byte is 0, and bit 2 of the third is 1. */
 #define TARHUSPO_REASON_FIXED_BITS UINT32_C(1)
 /* W is 0 in the VEX forms of VPERMILPD, VPERMILPS and VPERM2F128. */
 #define TARHUSPO_REASON_W UINT32_C(2)
@@ -92,9 +92,10 @@ extern "C" {
  *  2  There is no byte.
  *  3  The first byte is not C4, C5 or 62 (hexadecimal, as below).
  *  2  The bytes end before the opcode does.
- *  4  EVEX: bit 3 or 2 of the second byte is not 0, or bit 2 of the third is not 1. This is
+ *  4  EVEX: bit 3 of the second byte is not 0, or bit 2 of the third is not 1. This is
  *     TARHUSPO_REASON_FIXED_BITS.
  *  3  No supported instruction has this prefix kind, pp, map and opcode, and under EVEX this W.
+ *     The EVEX map is bits 2 to 0 of the second byte. Only maps 1, 2 and 3 have instructions here.
  *  2  The bytes end before the instruction does.
  *  4  A reserved field is wrong (the processor raises #UD): VEX W is 1 where it must be 0,
  *     VPERM2F128 has 128 bits, the EVEX width is 3, vvvv or V' is not all ones in a form without

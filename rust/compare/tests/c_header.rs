@@ -139,7 +139,7 @@ fn constants_are_those_of_the_wrapper() {
     assert_eq!(printed("constants.c", "c_constants"), lines.concat());
 }
 
-/// What requests 3, 4 and 5 say in numbers, and the version that request 6 made.
+/// What requests 3, 4 and 5 say in numbers, and the version that request 7 made.
 #[test]
 fn constants_of_requests() {
     let reasons = [
@@ -158,7 +158,7 @@ fn constants_of_requests() {
         (limits::TEXT_LEAST, limits::TEXT_WHOLE),
         (64, 24 + 27 * 4_096)
     );
-    assert_eq!((version::MAJOR, version::MINOR), (5, 0));
+    assert_eq!((version::MAJOR, version::MINOR), (6, 0));
 }
 
 /// None is left out above.

@@ -97,6 +97,18 @@ impl Decoded {
 /// let refused = decode(&[0xC5, 0xE9, 0x70, 0xCA, 0x1B], features::ALL);
 /// assert_eq!((refused.status, refused.reason), (4, reason::VVVV));
 /// ```
+///
+/// Under EVEX bits 2 to 0 of the second byte are the map, and only bit 3 is reserved there:
+///
+/// ```
+/// use tarhuspo::{decode, features, reason};
+///
+/// // vpshufd zmm1, zmm2, 0x1b with map 5, in which no supported instruction is, and with bit 3.
+/// let mut code = [0x62, 0xF5, 0x7D, 0x48, 0x70, 0xCA, 0x1B];
+/// assert_eq!(decode(&code, features::ALL).status, 3);
+/// code[1] = 0xF9;
+/// assert_eq!(decode(&code, features::ALL).reason, reason::FIXED_BITS);
+/// ```
 pub fn decode(code: &[u8], features: u32) -> Decoded {
     // SAFETY: a slice's pointer is non-null and valid for reads of its length, and the library
     // reads nothing else, writes nothing and keeps no pointer.

@@ -2,12 +2,12 @@
 //!
 //! ```
 //! // Compiles only while no answer can be another one than those that were stored.
-//! const _: () = assert!(tarhuspo::version::MAJOR == 5);
+//! const _: () = assert!(tarhuspo::version::MAJOR == 6);
 //! ```
 
 /// Moves when a caller's source or stored answers can break: a struct's layout, a size or limit, an
 /// answer that changes for some input.
-pub const MAJOR: u32 = 5;
+pub const MAJOR: u32 = 6;
 /// Moves when something is only added: a function, a constant, an instruction that status 3 refused
 /// before.
 pub const MINOR: u32 = 0;
