@@ -128,7 +128,7 @@ const FEATURES: &str = "  \
 const REASONS: &str = "
 Status 4 (#UD) comes with a reason: the number of the reserved field that is
 wrong, and of the first one if several are. What the fields must be:
-  1  EVEX fixed bits: bits 3 and 2 of the second byte 0, bit 2 of the third 1
+  1  EVEX fixed bits: bit 3 of the second byte 0, bit 2 of the third 1
   2  W: 0 in the VEX forms of VPERMILPD, VPERMILPS and VPERM2F128
   3  width: not L'L 11b under EVEX, and L 1 for VPERM2F128
   4  vvvv: 1111b, and V' 1 under EVEX, in a form without a first source

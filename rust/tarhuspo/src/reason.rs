@@ -15,7 +15,7 @@
 //! assert_eq!(decode(&code, features::ALL).reason, reason::WIDTH);
 //! ```
 
-/// EVEX: bits 3 and 2 of the second byte, and bit 2 of the third.
+/// EVEX: bit 3 of the second byte, and bit 2 of the third.
 pub const FIXED_BITS: u32 = 1;
 /// VEX.W, in a form that has W 0 alone.
 pub const W: u32 = 2;
@@ -45,8 +45,7 @@ pub fn describe_reason(reason: u32) -> &'static str {
     match reason {
         0 => "There is no reason: only status 4 comes with one.",
         FIXED_BITS => {
-            "The EVEX fixed bits must be 0 (bits 3 and 2 of the second byte) and 1 (bit 2 of the \
-             third)."
+            "The EVEX fixed bits must be 0 (bit 3 of the second byte) and 1 (bit 2 of the third)."
         }
         W => "W must be 0 in the VEX form of this instruction.",
         WIDTH => {

@@ -168,10 +168,18 @@ fn refusals_are_those_of_decode() {
     let describe = |status: u32| refusal(&format!("{status}: {}", tarhuspo::describe(status)));
     assert_eq!(run(&["address", "C5 F9 70 08"]), describe(2));
     assert_eq!(run(&["address", "90"]), describe(3));
+    // vpshufd zmm1, [rax], 0x1b in EVEX map 5
+    assert_eq!(run(&["address", "62 F5 7D 48 70 08 1B"]), describe(3));
     assert_eq!(run(&["address", "C5 E9 70 08 1B"]), refusal(WRONG_VVVV));
     assert_eq!(run(&["address", ZMM, "--features", "avx"]), describe(5));
     assert_eq!(run(&["address", ZMM, "--features", "64"]), describe(1));
-    for bytes in ["", "62", "C5 E9 70 08 1B", "62 F1 7D 68 70 08 1B"] {
+    for bytes in [
+        "",
+        "62",
+        "C5 E9 70 08 1B",
+        "62 F1 7D 68 70 08 1B",
+        "62 F9 7D 48 70 08 1B",
+    ] {
         let (status, out, err) = run(&["decode", bytes]);
         assert_eq!(run(&["address", bytes]), (status, out, err), "{bytes}");
     }

@@ -25,8 +25,8 @@ fn assert_refused_with(arguments: &[&str], words: &str) {
 
 /// What stands behind `status` for the six wrong fields, in the order of their numbers.
 const WRONG: [&str; 6] = [
-    "4 (#UD), reason 1: The EVEX fixed bits must be 0 (bits 3 and 2 of the second byte) and 1 \
-     (bit 2 of the third).",
+    "4 (#UD), reason 1: The EVEX fixed bits must be 0 (bit 3 of the second byte) and 1 (bit 2 of \
+     the third).",
     "4 (#UD), reason 2: W must be 0 in the VEX form of this instruction.",
     WRONG_WIDTH,
     WRONG_VVVV,
@@ -303,14 +303,15 @@ fn refusals_of_the_lane_permutes() {
 #[test]
 fn each_wrong_field_is_named() {
     let fields = [
-        // Bits 2 and 3 of the second byte, and bit 2 of the third.
+        // Bit 3 of the second byte, whatever the map is, and bit 2 of the third.
         (
             1,
             &[
-                "62F57D4870CA1B",
                 "62F97D4870CA1B",
                 "62FD7D4870CA1B",
                 "62F1794870CA1B",
+                "62F5794870CA1B",
+                "62FD794870CA1B",
             ][..],
         ),
         // VPERMILPD, VPERMILPS and VPERM2F128 with W 1.
@@ -341,10 +342,31 @@ fn each_wrong_field_is_named() {
     }
 }
 
+/// vpshufd zmm1, zmm2, 0x1b is in map 1. Where a map has no instruction, wrong fields and missing
+/// bytes behind the opcode do not show.
+#[test]
+fn other_evex_maps_have_no_instruction() {
+    assert_eq!(
+        instruction("62 F1 7D 48 70 CA 1B"),
+        "vpshufd zmm1, zmm2, 0x1b"
+    );
+    for map in [0, 4, 5, 6, 7] {
+        for rest in ["7D 48 70 CA 1B", "75 F8 70 CA 1B", "7D 48 70"] {
+            let code = format!("62 F{map} {rest}");
+            assert_refused(&["decode", &code], 3);
+        }
+        assert_refused(&["decode", &format!("62 F{map} 7D 48")], 2);
+    }
+    // The answer as a person sees it.
+    let answer = "refused, status 3: The bytes are not one of the supported instructions.\n";
+    let ran = run(&["decode", "62F57D4870CA1B"]);
+    assert_eq!(ran, (Some(1), answer.to_string(), String::new()));
+}
+
 /// One field after the other put right, until the instruction is accepted.
 #[test]
 fn the_first_of_several_wrong_fields_is_named() {
-    assert_reason("62 F5 75 F8 70 CA 1B", 1);
+    assert_reason("62 F9 75 F8 70 CA 1B", 1);
     assert_reason("62 F1 75 F8 70 CA 1B", 3);
     assert_reason("62 F1 75 D8 70 CA 1B", 4);
     assert_reason("62 F1 7D D8 70 CA 1B", 5);

@@ -83,7 +83,7 @@ fn lane_permutes_are_listed() {
 #[test]
 fn reasons_are_listed_and_noted() {
     let fields = [
-        "62F57D4870CA1B",
+        "62F97D4870CA1B",
         "C4E3FD05CA05",
         "C4E36906CB31",
         "C5E970CA1B",
@@ -105,6 +105,16 @@ fn reasons_are_listed_and_noted() {
     let (_, _, note) = run(&["list", "hex:C5E970CA1B"]);
     let expected = format!("tarhuspo: note: refused at place 0, status {WRONG_VVVV}\n");
     assert_eq!(note, expected);
+}
+
+/// EVEX maps that no instruction has are answer 3, for which there is no note.
+#[test]
+fn other_evex_maps_end_a_list() {
+    for map in [0, 4, 5, 6, 7] {
+        let code = format!("hex:C5E814CB 62F{map}7D4870CA1B");
+        let text = format!("{HEADINGS}0\t4\tVUNPCKLPS\t128\t0\n4\t0\t-\t0\t3\n");
+        assert_eq!(run(&["list", &code]), (Some(0), text, String::new()));
+    }
 }
 
 /// An instruction, and what its line says of it.

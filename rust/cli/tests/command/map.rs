@@ -96,6 +96,8 @@ fn refused_lists_write_nothing() {
     for (code, place, status) in [
         ("hex:C5F970CA1B C5F970", 5, 2),
         ("hex:90", 0, 3),
+        // vpshufd zmm1, zmm2, 0x1b in EVEX map 5
+        ("hex:C5E814CB 62F57D4870CA1B", 4, 3),
         ("hex:C5E814CB C5F970081B", 4, 7),
         ("hex:C4E2690DCB", 0, 7),
         // vpermilps and vpshufb with a register as control, behind a step that has a map

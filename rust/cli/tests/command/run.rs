@@ -267,6 +267,8 @@ fn a_run_refused_at_once_keeps_the_start() {
     for (code, features, place, status) in [
         ("hex:C5F97008 1B C5E814CB", "63", "0 of 9", 6),
         ("hex:90", "63", "0 of 1", 3),
+        // vpshufd zmm1, zmm2, 0x1b in EVEX map 5
+        ("hex:62F57D4870CA1B", "63", "0 of 7", 3),
         ("hex:C5E814CB", "64", "0 of 4", 1),
         (&long, "63", "0 of 16385", 8),
     ] {

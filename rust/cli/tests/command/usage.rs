@@ -65,6 +65,9 @@ fn help_has_the_reasons() {
             let line = format!("\n  {reason}  {field}: ");
             assert_eq!(help.matches(&line).count(), 1, "{line} in {command}");
         }
+        // Bit 2 of the second byte is one of the map.
+        let bits = "fixed bits: bit 3 of the second byte 0, bit 2 of the third 1\n";
+        assert!(help.contains(bits), "{command}");
     }
     for command in ["address", "run", "map", "compare"] {
         let help = printed(&["help", command]);
