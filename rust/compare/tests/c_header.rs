@@ -28,6 +28,20 @@ vpshufb: 0 6 0 10 512 1 1 2 3 0 0 0 0 0, reason 0\n\
 without avx512bw: 5 0 0 0 0 0 0 0 0 0 0 0 0 0, reason 0\n\
 z: 4 0 0 0 0 0 0 0 0 0 0 0 0 0, reason 6\n\
 b and z: 4 0 0 0 0 0 0 0 0 0 0 0 0 0, reason 5\n\
+map 1: 0 7 0 4 512 1 1 0 2 0 0 0 1 27, reason 0\n\
+map 0: 3 0 0 0 0 0 0 0 0 0 0 0 0 0, reason 0\n\
+map 4: 3 0 0 0 0 0 0 0 0 0 0 0 0 0, reason 0\n\
+map 5: 3 0 0 0 0 0 0 0 0 0 0 0 0 0, reason 0\n\
+map 6: 3 0 0 0 0 0 0 0 0 0 0 0 0 0, reason 0\n\
+map 7: 3 0 0 0 0 0 0 0 0 0 0 0 0 0, reason 0\n\
+P bit 3: 4 0 0 0 0 0 0 0 0 0 0 0 0 0, reason 1\n\
+P bit 3, map 5: 4 0 0 0 0 0 0 0 0 0 0 0 0 0, reason 1\n\
+Q bit 2: 4 0 0 0 0 0 0 0 0 0 0 0 0 0, reason 1\n\
+Q bit 2, map 5: 4 0 0 0 0 0 0 0 0 0 0 0 0 0, reason 1\n\
+map 5 cut behind the opcode: 3 0 0 0 0 0 0 0 0 0 0 0 0 0, reason 0\n\
+map 5 cut before it: 2 0 0 0 0 0 0 0 0 0 0 0 0 0, reason 0\n\
+P bit 3 cut behind the opcode: 4 0 0 0 0 0 0 0 0 0 0 0 0 0, reason 1\n\
+P bit 3 cut before it: 2 0 0 0 0 0 0 0 0 0 0 0 0 0, reason 0\n\
 address: 0 0 1 000000000000a020\n\
 next instruction: 0 0 1 fffffffffffffffe\n\
 register form: 0 0 0 0000000000000000\n\
@@ -81,6 +95,22 @@ reserved listing: 56 4 0 0, changed 56\n\
 at\tlen\tname\tbits\tanswer\n\
 0\t4\tVUNPCKLPS\t128\t0\n\
 4\t0\t-\t0\t4:3\n\
+map 5: 3 0 0 0000000000000000\n\
+step: 3 0, reason 0\n\
+run: 1 4 3, reason 0\n\
+build: 4 3, reason 0\n\
+listing: 54 4 0 0, changed 54\n\
+at\tlen\tname\tbits\tanswer\n\
+0\t4\tVUNPCKLPS\t128\t0\n\
+4\t0\t-\t0\t3\n\
+P bit 3: 4 1 0 0000000000000000\n\
+step: 4 0, reason 1\n\
+run: 1 4 4, reason 1\n\
+build: 4 4, reason 1\n\
+listing: 56 4 0 0, changed 56\n\
+at\tlen\tname\tbits\tanswer\n\
+0\t4\tVUNPCKLPS\t128\t0\n\
+4\t0\t-\t0\t4:1\n\
 run: 4096 16384 0, build: 16384 0\n\
 listing: 95550 16384 0 0, changed 95550\n\
 last line: 24 16384 0 0, changed 24\n\

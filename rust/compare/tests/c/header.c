@@ -87,6 +87,32 @@ static void decode(void)
     print("b and z", tarhuspo_decode(b_and_z, sizeof b_and_z, 0));
 }
 
+/* The first bytes of vpshufd zmm1, zmm2, 0x1b, which P F1 and Q 7D make. */
+static void decode_evex(const char *name, uint8_t p, uint8_t q, size_t code_len)
+{
+    const uint8_t code[] = {0x62, p, q, 0x48, 0x70, 0xCA, 0x1B};
+
+    print(name, tarhuspo_decode(code, code_len, 63));
+}
+
+static void evex_maps(void)
+{
+    decode_evex("map 1", 0xF1, 0x7D, 7);
+    decode_evex("map 0", 0xF0, 0x7D, 7);
+    decode_evex("map 4", 0xF4, 0x7D, 7);
+    decode_evex("map 5", 0xF5, 0x7D, 7);
+    decode_evex("map 6", 0xF6, 0x7D, 7);
+    decode_evex("map 7", 0xF7, 0x7D, 7);
+    decode_evex("P bit 3", 0xF9, 0x7D, 7);
+    decode_evex("P bit 3, map 5", 0xFD, 0x7D, 7);
+    decode_evex("Q bit 2", 0xF1, 0x79, 7);
+    decode_evex("Q bit 2, map 5", 0xF5, 0x79, 7);
+    decode_evex("map 5 cut behind the opcode", 0xF5, 0x7D, 5);
+    decode_evex("map 5 cut before it", 0xF5, 0x7D, 4);
+    decode_evex("P bit 3 cut behind the opcode", 0xF9, 0x7D, 5);
+    decode_evex("P bit 3 cut before it", 0xF9, 0x7D, 4);
+}
+
 static void print_address(const char *name, tarhuspo_addressed a)
 {
     printf("%s: %u %u %u %016" PRIx64 "\n", name, a.status, a.reason, a.has_address, a.address);
@@ -246,6 +272,27 @@ static void listing(void)
     piece("reserved listing", reserved_list, sizeof reserved_list, 0, sizeof text);
 }
 
+/* vunpcklps xmm1, xmm2, xmm3; vpshufd zmm1, zmm2, 0x1b with another P: all but decoding. */
+static void refused_evex(const char *name, uint8_t p)
+{
+    const uint8_t code[] = {0xC5, 0xE8, 0x14, 0xCB, 0x62, p, 0x7D, 0x48, 0x70, 0xCA, 0x1B};
+    const uint64_t registers[TARHUSPO_GPR_COUNT] = {0};
+    const uint8_t *last = code + 4;
+    const size_t last_len = sizeof code - 4;
+    tarhuspo_stepped s = tarhuspo_step(last, last_len, file, sizeof file, masks,
+                                       TARHUSPO_MASK_COUNT, 63, code, 0);
+    tarhuspo_ran r = tarhuspo_run(code, sizeof code, file, sizeof file, masks, TARHUSPO_MASK_COUNT,
+                                  63, TARHUSPO_MOST_STEPS);
+    tarhuspo_built b = tarhuspo_bytemap_build(code, sizeof code, masks, TARHUSPO_MASK_COUNT, 63,
+                                              map, TARHUSPO_MAP_SIZE);
+
+    print_address(name, tarhuspo_address(last, last_len, 63, registers, TARHUSPO_GPR_COUNT, 0));
+    printf("step: %u %u, reason %u\n", s.status, s.length, s.reason);
+    printf("run: %" PRIu64 " %" PRIu64 " %u, reason %u\n", r.steps, r.place, r.status, r.reason);
+    printf("build: %" PRIu64 " %u, reason %u\n", b.place, b.status, b.reason);
+    piece("listing", code, sizeof code, 0, sizeof text);
+}
+
 /* A list of the most bytes, and one of a byte more. */
 static void limit(size_t code_len)
 {
@@ -348,12 +395,15 @@ static void features_of(const char *name, uint32_t (*call)(uint32_t features))
 int main(void)
 {
     decode();
+    evex_maps();
     address();
     step();
     run();
     bytemap();
     reserved_run();
     listing();
+    refused_evex("map 5", 0xF5);
+    refused_evex("P bit 3", 0xF9);
     limit(TARHUSPO_CODE_LIMIT);
     limit(TARHUSPO_CODE_LIMIT + 1);
     features_of("decode", decoding);
