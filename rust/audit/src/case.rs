@@ -60,7 +60,6 @@ impl Case {
 
 /// Which shapes can be audited on this machine, and which not.
 pub struct Plan {
-    apx: bool,
     /// The features of a case are one of these, and what its shape needs.
     sets: Vec<u8>,
     accepted: Vec<Shape>,
@@ -70,22 +69,26 @@ pub struct Plan {
 
 impl Plan {
     pub fn new(capabilities: Capabilities) -> Plan {
+        Plan::of(capabilities.apx(), |shape| lacking(shape, capabilities))
+    }
+
+    /// The plan for a machine with or without APX, of the shapes for which `lacking` has no reason.
+    fn of(apx: bool, lacking: impl Fn(Shape) -> Option<String>) -> Plan {
         let mut plan = Plan {
-            apx: capabilities.apx(),
             sets: features::possible(),
             accepted: Vec::new(),
             damaged: Vec::new(),
             skipped: Vec::new(),
         };
         for shape in Shape::all() {
-            match lacking(shape, capabilities) {
+            match lacking(shape) {
                 Some(reason) => plan.skip(shape, reason),
                 None => plan.accepted.push(shape),
             }
         }
         for field in FIELDS {
             let shapes = plan.accepted.iter().copied();
-            let damaged = shapes.filter(|shape| applies(*shape, field));
+            let damaged = shapes.filter(|shape| applies(*shape, field, apx));
             plan.damaged.extend(damaged.map(|shape| (shape, field)));
         }
         plan
@@ -119,7 +122,7 @@ impl Plan {
         // have to be a set that a processor can have, which two such sets together are too.
         let mut features = u32::from(random.pick(&self.sets));
         match field {
-            Some(field) => damage(&mut fields, field, self.apx, &mut random),
+            Some(field) => damage(&mut fields, field, &mut random),
             None => features |= shape.needed_features(),
         }
         Case {
@@ -178,10 +181,11 @@ fn random_mask(random: &mut Random) -> u64 {
 
 #[cfg(test)]
 mod tests {
-    use super::Plan;
+    use super::{Case, Plan};
     use crate::detect::Capabilities;
     use crate::features::possible;
-    use std::collections::BTreeSet;
+    use reference::Field;
+    use std::collections::{BTreeMap, BTreeSet};
 
     /// Each of the sets, of an encoding that is refused whatever the features are.
     #[test]
@@ -205,5 +209,57 @@ mod tests {
             assert_eq!(lacking, 0, "{}", case.shape.form());
         }
         assert!(damaged.into_iter().eq(possible()));
+    }
+
+    const SEEDS: u64 = 20;
+    const CASES: u64 = 4_000;
+
+    /// The EVEX cases of many seeds, on a machine that has every feature.
+    fn evex_cases(apx: bool) -> impl Iterator<Item = Case> {
+        let plan = Plan::of(apx, |_| None);
+        let numbers = (0..SEEDS).flat_map(|seed| (0..CASES).map(move |number| (seed, number)));
+        let cases = numbers.map(move |(seed, number)| plan.case(seed, number));
+        cases.filter(|case| case.code[0] == 0x62)
+    }
+
+    /// Maps 4 to 7 belong to instructions that are not ours, and map 0 to none.
+    #[test]
+    fn evex_maps_are_those_of_the_rows() {
+        for apx in [false, true] {
+            let mut maps = BTreeMap::new();
+            for case in evex_cases(apx) {
+                let map = case.code[1] & 7;
+                assert_eq!(map, case.shape.row.map, "{:02X?}", case.code);
+                *maps.entry(map).or_insert(0) += 1;
+            }
+            println!("EVEX cases by map, APX {apx}: {maps:?}");
+            assert!(maps.keys().eq(&[1, 2, 3]), "{maps:?}");
+        }
+    }
+
+    /// How many cases have neither of the two bits wrong, P bit 3, Q bit 2, and both.
+    fn fixed_bits(apx: bool) -> [usize; 4] {
+        let mut counts = [0; 4];
+        for case in evex_cases(apx) {
+            let (p, q) = (case.code[1] >> 3 & 1, !case.code[2] >> 2 & 1);
+            let is_damaged = case.damage == Some(Field::FixedBits);
+            assert_eq!(p | q == 1, is_damaged, "{:02X?}", case.code);
+            counts[usize::from(p + 2 * q)] += 1;
+        }
+        println!("EVEX cases with none, P bit 3, Q bit 2, both wrong, APX {apx}: {counts:?}");
+        counts
+    }
+
+    #[test]
+    fn fixed_bits_are_wrong_alone_and_together() {
+        assert!(fixed_bits(false).iter().all(|count| *count > 0));
+    }
+
+    /// The two bits have a meaning there, and no other is fixed.
+    #[test]
+    fn no_bit_is_fixed_with_apx() {
+        let [none, wrong @ ..] = fixed_bits(true);
+        assert!(none > 0);
+        assert_eq!(wrong, [0; 3]);
     }
 }

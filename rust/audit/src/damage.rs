@@ -39,11 +39,13 @@ pub fn reason(field: Field) -> u32 {
     }
 }
 
-/// Whether an encoding of this shape can have this field wrong.
-pub fn applies(shape: Shape, field: Field) -> bool {
+/// Whether an encoding of this shape can have this field wrong. With APX, P bit 3 and Q bit 2 have a
+/// meaning, so that no bit is fixed.
+pub fn applies(shape: Shape, field: Field, apx: bool) -> bool {
     let row = shape.row;
     match field {
-        Field::FixedBits | Field::Zeroing => shape.is_evex(),
+        Field::FixedBits => shape.is_evex() && !apx,
+        Field::Zeroing => shape.is_evex(),
         Field::W => shape.prefix == Prefix::Vex3 && !row.vex_any_w,
         Field::Width => shape.is_evex() || row.vex_l == [1],
         Field::Vvvv => !row.first,
@@ -55,16 +57,15 @@ pub fn applies(shape: Shape, field: Field) -> bool {
     }
 }
 
-/// Makes one field of an accepted encoding wrong. With APX, P bit 3 and Q bit 2 are not fixed.
-pub fn damage(fields: &mut Fields, field: Field, apx: bool, random: &mut Random) {
+/// Makes one field of an accepted encoding wrong.
+pub fn damage(fields: &mut Fields, field: Field, random: &mut Random) {
     let is_evex = fields.prefix == Prefix::Evex;
     match field {
-        Field::FixedBits if apx => fields.fixed_p = 1,
         Field::FixedBits => {
-            // Any of the eight values of the three bits but the right one.
-            let wrong = 1 + random.below(7);
-            fields.fixed_p = wrong & 3;
-            fields.fixed_q = 1 - (wrong >> 2);
+            // Any of the four values of the two bits but the right one.
+            let wrong = 1 + random.below(3);
+            fields.fixed_p = wrong & 1;
+            fields.fixed_q = 1 - (wrong >> 1);
         }
         Field::W => fields.w = 1,
         Field::Width => fields.width = if is_evex { 3 } else { 0 },

@@ -48,7 +48,7 @@ pub struct Capabilities {
     /// AVX512BW, whatever features are left out: the audit's own loads and stores of opmasks, which
     /// have 64 bits then, need it.
     wide_opmasks: bool,
-    /// APX is on, which gives a meaning to EVEX bits that are otherwise fixed.
+    /// APX is on, which gives a meaning to the EVEX bits that are otherwise fixed.
     apx: bool,
 }
 
@@ -65,9 +65,14 @@ impl Capabilities {
     }
 
     /// What would be detected if CPUID and XCR0 had other words, as far as this machine has it too.
+    /// APX counts if either has it, since it only takes encodings away.
     pub fn detect_as(words: &Words) -> Result<Capabilities, Impossible> {
         let features = words.features()?;
-        Ok(Capabilities::detect()?.without(!features))
+        let found = Capabilities::detect()?.without(!features);
+        Ok(Capabilities {
+            apx: found.apx || words.has_apx(),
+            ..found
+        })
     }
 
     /// The same without the given features, and without those that need one of them.

@@ -7,10 +7,11 @@ use crate::shape::{Operand, Prefix, Shape};
 #[derive(Debug, Clone)]
 pub struct Fields {
     pub prefix: Prefix,
-    /// EVEX P bits 3:2, always 0.
+    /// EVEX P bit 3, always 0.
     pub fixed_p: u8,
     /// EVEX Q bit 2, always 1.
     pub fixed_q: u8,
+    /// Under EVEX P bits 2:0. Instructions in maps 4 to 7 are not ours, so that it is 1 to 3.
     pub map: u8,
     pub pp: u8,
     pub w: u8,
@@ -109,7 +110,7 @@ impl Fields {
             ],
             Prefix::Evex => vec![
                 0x62,
-                not_rxb | not_bit_4(self.destination) << 4 | self.fixed_p << 2 | self.map,
+                not_rxb | not_bit_4(self.destination) << 4 | self.fixed_p << 3 | self.map,
                 self.w << 7 | vvvv_pp | self.fixed_q << 2,
                 self.evex_s(),
             ],

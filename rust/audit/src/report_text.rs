@@ -39,13 +39,24 @@ fn write_machine(f: &mut Formatter<'_>, report: &Report, set: RegisterSet) -> Re
     if set == RegisterSet::Ymm16 {
         writeln!(f, "no AVX-512 here: only VEX forms, on registers 0 to 15")?;
     }
-    if capabilities.apx() {
+    writeln!(f, "forms skipped: {}", skipped_forms(&report.skipped))?;
+    write_left_out(f, capabilities.apx())
+}
+
+/// Encodings that are never carried out, because some processors have a meaning for them.
+fn write_left_out(f: &mut Formatter<'_>, apx: bool) -> Result {
+    writeln!(
+        f,
+        "EVEX maps 4 to 7 are not compared: the library answers 3, and newer processors may have\n  \
+         instructions there"
+    )?;
+    if apx {
         writeln!(
             f,
-            "APX is on: of the EVEX fixed bits only P bit 2 is fixed here"
+            "EVEX fixed bits are not compared: APX is on, which has a meaning for them"
         )?;
     }
-    writeln!(f, "forms skipped: {}", skipped_forms(&report.skipped))
+    Ok(())
 }
 
 /// The forms that the machine lacks, on one line.

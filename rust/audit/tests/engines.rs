@@ -26,8 +26,7 @@ fn check_coverage(report: &Report) {
     assert_eq!((report.steps(), report.refused_cases()), (60_000, 20_000));
     assert_eq!(report.bytes_per_step(), 2_048);
     assert_eq!(report.processor_bytes(), 2_048);
-    assert_eq!(report.refused.len(), 6);
-    assert!(report.refused.values().all(|count| *count > 0));
+    check_refused(report);
     // A processor that ignores b does so with a register alone.
     assert!(report.ignored < report.refused[&Field::Broadcast]);
     let text = report.to_string();
@@ -46,6 +45,15 @@ fn check_coverage(report: &Report) {
     ];
     assert_eq!(used, [32, 32, 32, 8, 7, 256]);
     check_addresses(report);
+}
+
+/// Every field has been wrong, but for the fixed bits if they have a meaning.
+fn check_refused(report: &Report) {
+    assert_eq!(report.refused.len(), 6);
+    for (field, count) in &report.refused {
+        let is_left_out = *field == Field::FixedBits && report.capabilities.apx();
+        assert_eq!(*count == 0, is_left_out, "{field:?}");
+    }
 }
 
 /// Every way to name memory occurs, and every memory operand is named in some.
@@ -219,6 +227,56 @@ fn hidden_features_are_not_used() {
     assert_eq!(found.iter().filter(|form| form.is_evex).count(), 8);
     let found = forms(Words { xcr0: 7, ..wide });
     assert!(found.iter().all(|form| !form.is_evex), "{found:?}");
+}
+
+/// CPUID's words for every feature and APX, with everything switched on.
+const APX: Words = Words {
+    leaf_1_ecx: 1 << 28,
+    leaf_7_ebx: 1 << 5 | 1 << 16 | 1 << 30 | 1 << 31,
+    leaf_7_ecx: 1 << 1,
+    leaf_7_1_edx: 1 << 21,
+    xcr0: 0x8_00E7,
+};
+
+#[test]
+fn fixed_bits_are_left_out_with_apx() {
+    if !has_all_registers() {
+        return;
+    }
+    let with_apx = Options {
+        capabilities: Capabilities::detect_as(&APX),
+        ..options(ENOUGH)
+    };
+    let report = passed(&mut engine::reference(), with_apx);
+    assert!(report.capabilities.apx());
+    check_refused(&report);
+    assert_eq!((report.steps(), report.refused_cases()), (3_000, 1_000));
+    assert!(report.to_string().contains("EVEX fixed bits 0, "));
+}
+
+/// The maps always, and the fixed bits with APX.
+#[test]
+fn report_says_what_is_left_out() {
+    let maps = "\nEVEX maps 4 to 7 are not compared: the library answers 3, and newer processors \
+                may have\n  instructions there\n";
+    let fixed_bits =
+        "\nEVEX fixed bits are not compared: APX is on, which has a meaning for them\n";
+    let all = Capabilities::detect().expect("possible features");
+    if all.register_set().is_none() {
+        println!("skipped: no AVX on this machine");
+        return;
+    }
+    let with_apx = Capabilities::detect_as(&APX).expect("possible features");
+    for capabilities in [all, all.without(feature::AVX512F), with_apx] {
+        let some = Options {
+            capabilities: Ok(capabilities),
+            ..options(100)
+        };
+        let text = passed(&mut engine::reference(), some).to_string();
+        assert_eq!(text.matches(maps).count(), 1, "{text}");
+        let count = usize::from(capabilities.apx());
+        assert_eq!(text.matches(fixed_bits).count(), count, "{text}");
+    }
 }
 
 /// An engine that is not to be asked anything.
@@ -682,8 +740,10 @@ fn wrong_reason_of_a_refusal() {
         next_field::<5>,
         next_field::<6>,
     ];
-    for change in wrong {
-        reason_differs("the next field", change);
+    // With APX no fixed bit is wrong, so that nothing has reason 1.
+    let apx = Capabilities::detect().expect("possible features").apx();
+    for change in &wrong[usize::from(apx)..] {
+        reason_differs("the next field", *change);
     }
 }
 
