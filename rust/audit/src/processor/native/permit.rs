@@ -1,7 +1,9 @@
 //! Which bytes may be executed at all.
 //!
 //! Either the reference accepts them as one whole instruction, or it refuses them with status 4 and
-//! accepts them once the one wrong field is put right. No other bytes reach the processor.
+//! accepts them once the one wrong field is put right. No other bytes reach the processor. An EVEX
+//! map from 4 to 7 is no wrong field, and stays what it is: newer processors may have instructions
+//! there.
 
 use reference::limits::feature;
 use reference::{decode, reserved_field, Field};
@@ -37,7 +39,7 @@ fn repaired(code: &[u8], field: Field) -> Vec<u8> {
     let q = if code[0] == 0xC5 { 1 } else { 2 };
     match (code[0], field) {
         (0x62, Field::FixedBits) => {
-            code[1] &= !0x0C;
+            code[1] &= !0x08;
             code[2] |= 0x04;
         }
         (0x62, Field::Width) => code[3] &= !0x60,
@@ -75,7 +77,7 @@ mod tests {
     #[test]
     fn one_wrong_field_is_permitted() {
         let damaged: [&[u8]; 10] = [
-            &[0x62, 0xF9, 0x7D, 0x48, 0x70, 0xCA, 0x1B], // fixed bits of P
+            &[0x62, 0xF9, 0x7D, 0x48, 0x70, 0xCA, 0x1B], // fixed bit of P
             &[0x62, 0xF1, 0x79, 0x48, 0x70, 0xCA, 0x1B], // fixed bit of Q
             &[0xC4, 0xE3, 0xFD, 0x05, 0xCA, 0x05],       // W
             &[0x62, 0xF1, 0x7D, 0x68, 0x70, 0xCA, 0x1B], // width 3
@@ -109,5 +111,26 @@ mod tests {
         for code in refused {
             assert_eq!(permit(code), None, "{code:02X?}");
         }
+    }
+
+    /// How many encodings of registers 0 to 2 with this EVEX map are permitted, of all opcodes with
+    /// each pp, W and value of the fixed bits, with and without an immediate.
+    fn permitted_with_map(map: u8) -> usize {
+        let codes = (0..1 << 13).flat_map(|number: u16| {
+            let [opcode, rest] = number.to_le_bytes();
+            let p = 0xF0 | (rest & 1) << 3 | map;
+            let q = (rest & 2) << 6 | 0x78 | rest >> 2;
+            let code = [0x62, p, q, 0x48, opcode, 0xCA];
+            [code.to_vec(), [&code[..], &[0x1B]].concat()]
+        });
+        codes.filter(|code| permit(code).is_some()).count()
+    }
+
+    /// The EVEX rows, once for each W that they have, are 5, 5 and 2 in the maps 1 to 3. All four
+    /// values of the fixed bits are permitted with them, and no map passes for another.
+    #[test]
+    fn no_other_evex_map_is_permitted() {
+        let counts = [0, 1, 2, 3, 4, 5, 6, 7].map(permitted_with_map);
+        assert_eq!(counts, [0, 4 * 5, 4 * 5, 4 * 2, 0, 0, 0, 0]);
     }
 }
