@@ -297,8 +297,10 @@ all buffers. The general registers are random too, and the memory operand stands
 where the library works out its address, among other bytes: the processor has to
 find it there. Damaged encodings must raise #UD and be refused with status 4 and
 the damaged field as the reason; b with a register as third operand, which some
-processors ignore, must be refused all the same. It ends at the first difference,
-and prints all that is needed to repeat that.
+processors ignore, must be refused all the same. EVEX maps 4 to 7 are left out,
+where newer processors may have instructions, and the EVEX fixed bits where APX is
+on, which has a meaning for them. It ends at the first difference, and prints all
+that is needed to repeat that.
 
   --seconds N      stop after N seconds; 10 if nothing is given
   --steps N        stop after N instructions, accepted and refused ones together

@@ -25,6 +25,7 @@ fn report_states_sizes_with_their_units() {
         "engine: tarhuspo, seed 5\n",
         "\nprocessor: ",
         "\nforms skipped: ",
+        "\nEVEX maps 4 to 7 are not compared: the library answers 3, and newer processors may have",
         "\nsteps compared: 1500 carried out, ",
         " refused with #UD\n",
         "\ncompared after each: 2048 register bytes (32 registers of 64 bytes), ",
@@ -44,6 +45,16 @@ fn report_states_sizes_with_their_units() {
     let undefined = number("carried out, ").expect("a number");
     let ignored = number("\n  and ").unwrap_or(0);
     assert_eq!(undefined + ignored, 500, "{report}");
+}
+
+/// As the report does.
+#[test]
+fn help_says_what_is_left_out() {
+    let help = printed(&["help", "audit"]);
+    let words: Vec<_> = help.split_whitespace().collect();
+    let left_out = "EVEX maps 4 to 7 are left out, where newer processors may have instructions, \
+                    and the EVEX fixed bits where APX is on";
+    assert!(words.join(" ").contains(left_out), "{help}");
 }
 
 /// Each instruction has been compared, or is named among those that this machine lacks.
