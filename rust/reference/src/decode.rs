@@ -1,5 +1,5 @@
-//! Decoding one instruction: document 01's prefix layouts, its instruction table with the rows of
-//! request 1, and the order of its refusals with the reasons of request 3.
+//! Decoding one instruction: document 01's prefix layouts with the map of request 7, its instruction
+//! table with the rows of request 1, and the order of its refusals with the reasons of request 3.
 
 use crate::limits::{check_features, feature};
 use crate::prefix::{Encoding, Prefix};
@@ -30,7 +30,7 @@ pub struct Decoded {
 /// The reserved fields of answer 4, in the order they are looked at.
 #[derive(Debug, Clone, Copy, PartialEq, Eq, PartialOrd, Ord)]
 pub enum Field {
-    /// Under EVEX: bits 3:2 of P, and bit 2 of Q.
+    /// Under EVEX: bit 3 of P, and bit 2 of Q. Bit 2 of P is part of the map (request 7).
     FixedBits,
     W,
     /// EVEX width 3, or VPERM2F128 with L 0.

@@ -1,7 +1,7 @@
 //! Independent reference for the proved library.
 //!
-//! Written from document 01, requests 1, 3, 4, 5 and 6 and the manual alone, so that the answers of
-//! the two can be compared. The modules follow the order of document 01. Every function takes
+//! Written from document 01, requests 1, 3, 4, 5, 6 and 7 and the manual alone, so that the answers
+//! of the two can be compared. The modules follow the order of document 01. Every function takes
 //! buffers of any length and content; a refusal is a status number, with a reason for status 4, and
 //! changes no byte.
 

@@ -1,4 +1,4 @@
-//! The three prefix layouts (document 01, "Prefix bytes").
+//! The three prefix layouts (document 01, "Prefix bytes", and request 7).
 
 use crate::decode::Field;
 use crate::refusal::Refusal;
@@ -37,13 +37,14 @@ pub(crate) struct Prefix {
 }
 
 impl Prefix {
-    /// Reads prefix and opcode. The EVEX fixed bits are checked here, once all five bytes are there.
+    /// Reads prefix and opcode. The EVEX fixed bits, of which P has only bit 3 since request 7, are
+    /// checked here, once all five bytes are there.
     pub(crate) fn read(code: &[u8]) -> Result<Prefix, Refusal> {
         match *code {
             [] => Err(Refusal::Short),
             [0xC5, p, opcode, ..] => Ok(vex2(p, opcode)),
             [0xC4, p, q, opcode, ..] => Ok(vex3(p, q, opcode)),
-            [0x62, p, q, _, _, ..] if p & 0x0C != 0 || q & 0x04 == 0 => {
+            [0x62, p, q, _, _, ..] if p & 0x08 != 0 || q & 0x04 == 0 => {
                 Err(Refusal::Reserved(Field::FixedBits))
             }
             [0x62, p, q, s, opcode, ..] => Ok(evex(p, q, s, opcode)),
@@ -97,7 +98,7 @@ fn evex(p: u8, q: u8, s: u8, opcode: u8) -> Prefix {
     Prefix {
         encoding: Encoding::Evex,
         length: 5,
-        map: p & 3,
+        map: p & 7,
         pp: q & 3,
         w: bit(q, 7),
         width: (s >> 5) & 3,

@@ -79,9 +79,9 @@ fn every_two_byte_vex_key() {
 
 #[test]
 fn every_evex_key() {
-    for number in 0..4 * 4 * 2 * 4 * 256_u32 {
+    for number in 0..8 * 4 * 2 * 4 * 256_u32 {
         let opcode = number as u8;
-        let [map, rest] = [(number >> 8) as u8 & 3, (number >> 10) as u8];
+        let [map, rest] = [(number >> 8) as u8 & 7, (number >> 11) as u8];
         let [pp, w, width] = [rest & 3, (rest >> 2) & 1, (rest >> 3) & 3];
         let code = [
             0x62,
@@ -105,17 +105,17 @@ fn every_evex_key() {
 
 #[test]
 fn every_value_of_the_fixed_bits() {
-    for bits in 0..8_u8 {
-        let p = 0xF1 | ((bits & 3) << 2);
-        let q = 0x79 | (bits & 4);
+    for bits in 0..4_u8 {
+        let p = 0xF1 | ((bits & 1) << 3);
+        let q = 0x79 | ((bits & 2) << 1);
         let code = [0x62, p, q, 0x48, 0x70, 0xCA, 0x1B];
-        let field = if bits == 4 {
+        let field = if bits == 2 {
             None
         } else {
             Some(Field::FixedBits)
         };
         assert_eq!(reserved_field(&code, ALL), field, "{code:02X?}");
-        assert_eq!(status(&code), if bits == 4 { 0 } else { 4 });
+        assert_eq!(status(&code), if bits == 2 { 0 } else { 4 });
     }
 }
 

@@ -1,4 +1,4 @@
-//! Tests of the reference against document 01, requests 1, 3, 4, 5 and 6 and the manual pages.
+//! Tests of the reference against document 01, requests 1, 3, 4, 5, 6 and 7 and the manual pages.
 
 mod addresses;
 mod any_input;
@@ -9,6 +9,7 @@ mod features;
 mod lane_permutes;
 mod listings;
 mod manual;
+mod maps;
 mod reasons;
 mod refusals;
 mod runs;

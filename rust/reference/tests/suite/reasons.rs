@@ -37,7 +37,7 @@ const SPOILED: [Spoiled; 7] = [
             (6, 3, 0x80),
         ],
     ),
-    // The same with the other fixed bits, and V' in the place of vvvv.
+    // The same with the other fixed bit, and V' in the place of vvvv.
     (
         &[0x62, 0xF1, 0x7D, 0x48, 0x70, 0xCA, 0x1B],
         &[
@@ -48,10 +48,10 @@ const SPOILED: [Spoiled; 7] = [
             (6, 3, 0x80),
         ],
     ),
-    // vpermb zmm1, zmm2, [rax] and vpshufb zmm1, zmm2, [rax]
+    // vpermb zmm1, zmm2, [rax] and vpshufb zmm1, zmm2, [rax], this with another map beside P bit 3
     (
         &[0x62, 0xF2, 0x6D, 0x48, 0x8D, 0x08],
-        &[(1, 1, 0x04), (3, 3, 0x20), (5, 3, 0x10), (6, 3, 0x80)],
+        &[(1, 1, 0x08), (3, 3, 0x20), (5, 3, 0x10), (6, 3, 0x80)],
     ),
     (
         &[0x62, 0xF2, 0x6D, 0x48, 0x00, 0x08],

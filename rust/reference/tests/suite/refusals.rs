@@ -75,6 +75,7 @@ fn no_row_comes_before_missing_bytes() {
     assert_eq!(step_status(&[0xC5, 0xF9, 0x71], 0, &[]), 3);
     assert_eq!(step_status(&[0xC4, 0xE3, 0x7D, 0x07], 0, &[]), 3);
     assert_eq!(step_status(&[0x62, 0xF1, 0x7D, 0x48, 0x71], 0, &[]), 3);
+    assert_eq!(step_status(&[0x62, 0xF5, 0x7D, 0x48, 0x70], 0, &[]), 3);
     // EVEX with the other W, VPERMB under VEX, VPERM2F128 under EVEX.
     assert_eq!(step_status(&[0x62, 0xF1, 0xFD, 0x48, 0x70], 0, &[]), 3);
     assert_eq!(step_status(&[0x62, 0xF3, 0x7D, 0x48, 0x05], 0, &[]), 3);

@@ -1,0 +1,150 @@
+//! Request 7: bits 2:0 of an EVEX prefix's P are the map, and bit 3 alone is fixed there.
+
+use crate::support::{refusal, varied_file, ALL, OPEN, SETS};
+use reference::{address, build, decode, listing, run, step, Decoded};
+
+/// An instruction of each EVEX row, VPSHUFB's with either W, that all features accept.
+const ACCEPTED: [&[u8]; 12] = [
+    &[0x62, 0xF3, 0xFD, 0x48, 0x05, 0xCA, 0x05],
+    &[0x62, 0xF2, 0xED, 0x48, 0x0D, 0xCB],
+    &[0x62, 0xF2, 0x6D, 0x48, 0x8D, 0xCB],
+    &[0x62, 0xF1, 0x6C, 0x48, 0x14, 0xCB],
+    &[0x62, 0xF1, 0x7D, 0x48, 0x70, 0xCA, 0x1B],
+    &[0x62, 0xF3, 0x7D, 0x48, 0x04, 0xCA, 0x1B],
+    &[0x62, 0xF2, 0x6D, 0x48, 0x0C, 0xCB],
+    &[0x62, 0xF1, 0x6C, 0x48, 0x15, 0xCB],
+    &[0x62, 0xF1, 0xED, 0x48, 0x14, 0xCB],
+    &[0x62, 0xF1, 0xED, 0x48, 0x15, 0xCB],
+    &[0x62, 0xF2, 0x6D, 0x48, 0x00, 0xCB],
+    &[0x62, 0xF2, 0xED, 0x48, 0x00, 0xCB],
+];
+
+/// The request's codes, with status and reason.
+const EQUATIONS: [(&[u8], u32, u32); 7] = [
+    (&[0x62, 0xF5, 0x7D, 0x48, 0x70, 0xCA, 0x1B], 3, 0),
+    (&[0x62, 0xF9, 0x7D, 0x48, 0x70, 0xCA, 0x1B], 4, 1),
+    (&[0x62, 0xF1, 0x79, 0x48, 0x70, 0xCA, 0x1B], 4, 1),
+    (&[0x62, 0xF4, 0x7D, 0x48, 0x70, 0xCA, 0x1B], 3, 0),
+    (&[0x62, 0xF0, 0x7D, 0x48, 0x70, 0xCA, 0x1B], 3, 0),
+    (&[0x62, 0xFD, 0x7D, 0x48, 0x70, 0xCA, 0x1B], 4, 1),
+    (&[0x62, 0xF5, 0x7D, 0x48], 2, 0),
+];
+
+#[test]
+fn equations_of_the_request() {
+    for (code, status, reason) in EQUATIONS {
+        for features in SETS {
+            let expected = refusal(status, reason);
+            assert_eq!(decode(code, features), expected, "{code:02X?}");
+        }
+        assert_eq!(decode(code, ALL - 1), refusal(1, 0));
+        assert_eq!(decode(code, ALL + 1), refusal(1, 0));
+    }
+}
+
+/// The other calls give what decoding gives, behind an accepted step and alone.
+#[test]
+fn equations_by_every_call() {
+    for (code, status, reason) in EQUATIONS {
+        let found = address(code, ALL, &[7; 16], 9);
+        assert_eq!((found.status, found.reason), (status, reason));
+        let mut file = varied_file();
+        let stepped = step(code, &mut file, &OPEN, ALL, &[]);
+        assert_eq!((stepped.status, stepped.reason), (status, reason));
+        assert_eq!(file, varied_file());
+        let list = [&[0xC5, 0xE8, 0x14, 0xCB], code].concat();
+        let ran = run(&list, &mut file, &OPEN, ALL, 9);
+        assert_eq!((ran.place, ran.status, ran.reason), (4, status, reason));
+        let built = build(&list, &OPEN, ALL, &mut [0; 2_048]);
+        assert_eq!(
+            (built.place, built.status, built.reason),
+            (4, status, reason)
+        );
+        let mut text = [0; 100];
+        let listed = listing(&list, 4, &mut text);
+        let answer = match status {
+            4 => format!("4:{reason}"),
+            _ => status.to_string(),
+        };
+        let line = format!("4\t0\t-\t0\t{answer}\n");
+        assert_eq!(&text[..listed.written as usize], line.as_bytes());
+    }
+}
+
+/// The instruction under every value of P's four low bits and of Q bit 2, each with what it answers.
+fn under_every_map(accepted: &[u8]) -> Vec<(Vec<u8>, Decoded)> {
+    let own = accepted[1] & 0x07;
+    let mut codes = Vec::new();
+    for bits in 0..32_u8 {
+        let mut code = accepted.to_vec();
+        code[1] = (code[1] & 0xF0) | (bits & 0x0F);
+        code[2] = (code[2] & !0x04) | (bits >> 4 << 2);
+        let has_fixed_bits = bits & 0x08 == 0 && bits & 0x10 != 0;
+        let expected = match (has_fixed_bits, bits & 0x07) {
+            (false, _) => refusal(4, 1),
+            (true, map) if map == own => decode(accepted, ALL),
+            (true, _) => refusal(3, 0),
+        };
+        codes.push((code, expected));
+    }
+    codes
+}
+
+/// Register forms, and memory forms of as many bytes.
+fn forms() -> Vec<Vec<u8>> {
+    let mut forms = Vec::new();
+    for code in ACCEPTED {
+        let mut in_memory = code.to_vec();
+        in_memory[5] = 0x08;
+        forms.extend([code.to_vec(), in_memory]);
+    }
+    forms
+}
+
+#[test]
+fn every_map_and_every_value_of_the_fixed_bits() {
+    let mut counts = [0; 5];
+    for accepted in forms() {
+        for (code, expected) in under_every_map(&accepted) {
+            assert_eq!(decode(&code, ALL), expected, "{code:02X?}");
+            counts[expected.status as usize] += 1;
+        }
+    }
+    // One of 32 is the row's own, and 24 have a wrong fixed bit.
+    assert_eq!(counts, [24, 0, 0, 24 * 7, 24 * 24]);
+}
+
+/// Nothing is looked at before the opcode is there, and nothing but a row's own bytes behind it.
+#[test]
+fn short_bytes_under_every_map() {
+    for accepted in forms() {
+        for (code, whole) in under_every_map(&accepted) {
+            for length in 0..code.len() {
+                let expected = match (length, whole.status) {
+                    (0..5, _) | (_, 0) => refusal(2, 0),
+                    _ => whole,
+                };
+                assert_eq!(decode(&code[..length], ALL), expected, "{code:02X?}");
+            }
+        }
+    }
+}
+
+/// R, X, B and R' stand above the map and the fixed bit, and change neither.
+#[test]
+fn registers_above_the_map() {
+    for p in 0..=u8::MAX {
+        let code = [0x62, p, 0x6D, 0x48, 0x8D, 0xCB];
+        let found = decode(&code, ALL);
+        let above =
+            |high: u8, low: u8| u32::from(!p >> high & 1) * 16 + u32::from(!p >> low & 1) * 8;
+        match p & 0x0F {
+            2 => {
+                let registers = (above(4, 7) + 1, above(6, 5) + 3);
+                assert_eq!((found.destination, found.third), registers, "{p:02X}");
+            }
+            0..8 => assert_eq!(found, refusal(3, 0), "{p:02X}"),
+            _ => assert_eq!(found, refusal(4, 1), "{p:02X}"),
+        }
+    }
+}
