@@ -4,6 +4,7 @@ use crate::encoding::Prefix;
 use crate::form::Form;
 use crate::limits::features::ALL;
 use crate::lists::{List, Mix};
+use crate::maps::{evex_shapes, OTHER_MAPS};
 use crate::random::Random;
 use crate::reserved::{possible_pairs, Field, Pair, Wrong};
 use std::sync::LazyLock;
@@ -14,6 +15,10 @@ pub enum Fault {
     /// The bytes end inside the instruction. Nothing can follow it.
     Short,
     NoRow,
+    /// An EVEX map that no row has: 0, or 4 to 7 (request 7).
+    OtherMap,
+    /// Wrong fixed bits, under any map.
+    FixedBits,
     /// One reserved field is wrong.
     Reserved,
     /// Two or more reserved fields are.
@@ -33,9 +38,11 @@ pub struct Bad {
 }
 
 /// The faults of a run, with their statuses.
-pub const RUN_FAULTS: [(Fault, u32); 6] = [
+pub const RUN_FAULTS: [(Fault, u32); 8] = [
     (Fault::Short, 2),
     (Fault::NoRow, 3),
+    (Fault::OtherMap, 3),
+    (Fault::FixedBits, 4),
     (Fault::Reserved, 4),
     (Fault::SeveralReserved, 4),
     (Fault::Feature, 5),
@@ -43,9 +50,11 @@ pub const RUN_FAULTS: [(Fault, u32); 6] = [
 ];
 
 /// The faults of building a byte map, with their statuses.
-pub const BUILD_FAULTS: [(Fault, u32); 7] = [
+pub const BUILD_FAULTS: [(Fault, u32); 9] = [
     (Fault::Short, 2),
     (Fault::NoRow, 3),
+    (Fault::OtherMap, 3),
+    (Fault::FixedBits, 4),
     (Fault::Reserved, 4),
     (Fault::SeveralReserved, 4),
     (Fault::Feature, 5),
@@ -65,6 +74,8 @@ impl Fault {
     pub fn encode(self, features: u32, random: &mut Random) -> Option<Bad> {
         let mix = match self {
             Fault::NoRow => return Some(without_reason(no_row(random))),
+            Fault::OtherMap => return Some(without_reason(other_map(random))),
+            Fault::FixedBits => return Some(fixed_bits(random)),
             Fault::Reserved => return Some(reserved(random)),
             Fault::SeveralReserved => return Some(several_reserved(random)),
             Fault::Short => Mix::of(|form| form.is_enabled(features)),
@@ -110,6 +121,24 @@ fn no_row(random: &mut Random) -> Vec<u8> {
         _ => code[2] ^= 0x80,
     }
     code
+}
+
+/// An EVEX instruction under a map that no row has, each as often.
+fn other_map(random: &mut Random) -> Vec<u8> {
+    let shape = random.pick(&evex_shapes());
+    let mut code = shape.encode(random);
+    shape.set_map(&mut code, random.pick(&OTHER_MAPS));
+    code
+}
+
+/// An EVEX instruction with either fixed bit wrong or both, under any map, each as often.
+fn fixed_bits(random: &mut Random) -> Bad {
+    let shape = random.pick(&evex_shapes());
+    let mut code = shape.encode(random);
+    shape.set_map(&mut code, random.bits(3));
+    let (second, third) = random.pick(&[(1, 1), (0, 0), (1, 0)]);
+    shape.set_fixed_bits(&mut code, second, third);
+    Bad { code, reason: 1 }
 }
 
 /// An encoding with one reserved field that is wrong, each of the six as often.

@@ -36,6 +36,18 @@ impl Shape {
         }
     }
 
+    /// The map, of an EVEX encoding.
+    pub fn set_map(self, code: &mut [u8], map: u8) {
+        put(&mut code[1], 0, 3, map);
+    }
+
+    /// The two fixed bits of an EVEX encoding: the second byte's, which is to be 0, and the third's,
+    /// which is to be 1.
+    pub fn set_fixed_bits(self, code: &mut [u8], second: u8, third: u8) {
+        put(&mut code[1], 3, 1, second);
+        put(&mut code[2], 2, 1, third);
+    }
+
     /// Opmask and zeroing, of an EVEX encoding.
     pub fn set_mask(self, code: &mut [u8], mask: u8, zeroing: bool) {
         put(&mut code[3], 0, 3, mask);

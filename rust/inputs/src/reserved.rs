@@ -7,7 +7,7 @@ use std::sync::LazyLock;
 /// A reserved field. Of several wrong ones, the least is the reason.
 #[derive(Debug, Clone, Copy, PartialEq, Eq, PartialOrd, Ord)]
 pub enum Field {
-    /// Bits 3:2 of an EVEX prefix's second byte, and bit 2 of its third.
+    /// Bit 3 of an EVEX prefix's second byte, and bit 2 of its third.
     FixedBits,
     W,
     Width,
@@ -83,10 +83,10 @@ impl Shape {
         let evex = self.prefix == Prefix::Evex;
         match field {
             Field::FixedBits => {
-                // One, two or all three of the bits.
-                let wrong = 1 + random.below(7) as u8;
-                code[1] ^= (wrong & 3) << 2;
-                code[2] ^= wrong & 4;
+                // Either of the two bits, or both.
+                let wrong = 1 + random.below(3) as u8;
+                code[1] ^= (wrong & 1) << 3;
+                code[2] ^= (wrong & 2) << 1;
             }
             Field::W => code[2] |= 0x80,
             Field::Width => self.set_width(code, if evex { 3 } else { 0 }),

@@ -21,21 +21,24 @@ pub struct Address {
     pub code: Vec<u8>,
 }
 
-pub const KINDS: [Kind<Address>; 21] = [
-    ("any operand", 5_000, any_operand),
+pub const KINDS: [Kind<Address>; 24] = [
+    ("any operand", 3_900, any_operand),
     ("one byte of displacement", 2_500, near),
     ("relative to the next one", 1_500, relative),
     ("no index or no base", 2_000, unusual_sib),
-    ("accepted", 1_500, accepted),
+    ("accepted", 2_200, accepted),
     ("bytes behind", 700, bytes_behind),
     ("number of registers", 700, register_count),
     ("impossible features", 450, impossible_features),
     ("features over 63", 200, unknown_features),
     ("any set that passes", 750, any_features),
-    ("one bit flipped", 1_500, flipped),
-    ("one byte replaced", 500, replaced),
+    ("one bit flipped", 1_000, flipped),
+    ("one byte replaced", 400, replaced),
     ("cut", 500, cut),
     ("no row", 200, no_row),
+    ("another map", 200, other_map),
+    ("fixed bits, any map", 700, fixed_bits),
+    ("map or fixed bits, cut", 100, map_and_cut),
     ("reserved field", 500, reserved),
     ("several reserved fields", 600, several_reserved),
     ("reserved fields, cut", 200, reserved_and_cut),
@@ -158,6 +161,22 @@ fn cut(maker: &mut Maker) -> Address {
 
 fn no_row(maker: &mut Maker) -> Address {
     fault(Fault::NoRow, maker)
+}
+
+fn other_map(maker: &mut Maker) -> Address {
+    fault(Fault::OtherMap, maker)
+}
+
+fn fixed_bits(maker: &mut Maker) -> Address {
+    fault(Fault::FixedBits, maker)
+}
+
+/// Short bytes, or what the map or the fixed bits answer before that shows.
+fn map_and_cut(maker: &mut Maker) -> Address {
+    let features = maker.features();
+    let code = maker.map_and_cut();
+    let input = Address::new(code, maker);
+    Address { features, ..input }
 }
 
 fn reserved(maker: &mut Maker) -> Address {

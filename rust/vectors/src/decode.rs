@@ -15,16 +15,19 @@ pub struct Decode {
     pub code: Vec<u8>,
 }
 
-pub const KINDS: [Kind<Decode>; 16] = [
-    ("accepted", 5_700, accepted),
+pub const KINDS: [Kind<Decode>; 19] = [
+    ("accepted", 4_900, accepted),
     ("bytes behind", 1_500, bytes_behind),
     ("any set that passes", 2_200, any_features),
     ("impossible features", 500, impossible_features),
     ("features over 63", 400, unknown_features),
-    ("one bit flipped", 3_000, flipped),
+    ("one bit flipped", 2_600, flipped),
     ("one byte replaced", 1_000, replaced),
     ("cut", 1_000, cut),
     ("no row", 600, no_row),
+    ("another map", 300, other_map),
+    ("fixed bits, any map", 700, fixed_bits),
+    ("map or fixed bits, cut", 200, map_and_cut),
     ("reserved field", 1_000, reserved),
     ("several reserved fields", 1_000, several_reserved),
     ("reserved fields, cut", 300, reserved_and_cut),
@@ -132,6 +135,22 @@ fn cut(maker: &mut Maker) -> Decode {
 
 fn no_row(maker: &mut Maker) -> Decode {
     fault(Fault::NoRow, maker)
+}
+
+fn other_map(maker: &mut Maker) -> Decode {
+    fault(Fault::OtherMap, maker)
+}
+
+fn fixed_bits(maker: &mut Maker) -> Decode {
+    fault(Fault::FixedBits, maker)
+}
+
+/// Short bytes, or what the map or the fixed bits answer before that shows.
+fn map_and_cut(maker: &mut Maker) -> Decode {
+    Decode {
+        features: maker.features(),
+        code: maker.map_and_cut(),
+    }
 }
 
 fn reserved(maker: &mut Maker) -> Decode {

@@ -33,17 +33,20 @@ pub struct Run<'a>(pub &'a ListInput);
 pub struct Build<'a>(pub &'a ListInput);
 pub struct Listing<'a>(pub &'a ListInput);
 
-pub const KINDS: [Kind<ListInput>; 25] = [
-    ("accepted", 4_560, accepted),
+pub const KINDS: [Kind<ListInput>; 28] = [
+    ("accepted", 3_956, accepted),
     ("short bytes", 1_500, short),
-    ("no row", 1_200, no_row),
+    ("no row", 900, no_row),
+    ("another map", 300, other_map),
+    ("fixed bits, any map", 700, fixed_bits),
+    ("map or fixed bits, cut", 200, map_and_cut),
     ("reserved field", 1_500, reserved),
     ("several reserved fields", 1_500, several_reserved),
     ("reserved fields, cut", 300, reserved_and_cut),
     ("missing feature", 1_500, feature),
     ("memory operand", 1_500, memory),
     ("control in a register", 2_000, control),
-    ("one bit flipped", 1_500, flipped),
+    ("one bit flipped", 1_200, flipped),
     ("any bytes", 200, any_bytes),
     ("impossible features", 450, impossible_features),
     ("features over 63", 300, unknown_features),
@@ -53,7 +56,7 @@ pub const KINDS: [Kind<ListInput>; 25] = [
     ("200 to 1,000 bytes", 100, long),
     ("4,096 bytes", 12, at_old_limit),
     ("over 4,096 bytes", 12, past_old_limit),
-    ("over 4,096 bytes, refused", 12, past_old_limit_refused),
+    ("over 4,096 bytes, refused", 16, past_old_limit_refused),
     ("16,384 bytes", 6, at_limit),
     ("16,384 bytes, 4,096 steps", 6, most_steps),
     ("over 16,384 bytes", 36, past_limit),
@@ -62,9 +65,11 @@ pub const KINDS: [Kind<ListInput>; 25] = [
 ];
 
 /// What a list with all features can be refused for.
-const LATE_FAULTS: [Fault; 6] = [
+const LATE_FAULTS: [Fault; 8] = [
     Fault::Short,
     Fault::NoRow,
+    Fault::OtherMap,
+    Fault::FixedBits,
     Fault::Reserved,
     Fault::SeveralReserved,
     Fault::Memory,
@@ -207,6 +212,22 @@ fn short(maker: &mut Maker) -> ListInput {
 
 fn no_row(maker: &mut Maker) -> ListInput {
     with_fault(Fault::NoRow, maker)
+}
+
+fn other_map(maker: &mut Maker) -> ListInput {
+    with_fault(Fault::OtherMap, maker)
+}
+
+fn fixed_bits(maker: &mut Maker) -> ListInput {
+    with_fault(Fault::FixedBits, maker)
+}
+
+/// A list that ends inside an instruction with another map or with wrong fixed bits.
+fn map_and_cut(maker: &mut Maker) -> ListInput {
+    let features = features(&mut maker.random);
+    let mut code = list(features, &mut maker.random).code;
+    code.extend(maker.map_and_cut());
+    ListInput::new(code, features, maker)
 }
 
 fn reserved(maker: &mut Maker) -> ListInput {
@@ -358,7 +379,7 @@ fn past_old_limit(maker: &mut Maker) -> ListInput {
 fn past_old_limit_refused(maker: &mut Maker) -> ListInput {
     let length = OLD_CODE_LIMIT + maker.random.below(6_000);
     let list = Mix::mappable(ALL).list_of_length(length, &mut maker.random);
-    let fault = maker.random.pick(&LATE_FAULTS);
+    let fault = maker.in_turn(&LATE_FAULTS);
     let code = [list.code, maker.fault(fault)].concat();
     let input = ListInput::new(code, ALL, maker);
     to_the_end(input, maker)

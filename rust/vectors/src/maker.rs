@@ -19,6 +19,8 @@ pub struct Maker {
     rows: Vec<Vec<Form>>,
     /// Instructions made so far.
     made: usize,
+    /// Choices made in turn so far.
+    turns: usize,
 }
 
 impl Maker {
@@ -27,7 +29,15 @@ impl Maker {
             random: Random::new(seed),
             rows: ROWS.iter().map(forms_of).collect(),
             made: 0,
+            turns: 0,
         }
+    }
+
+    /// One of the choices. They take turns, so that a few inputs have every one.
+    pub fn in_turn<T: Copy>(&mut self, choices: &[T]) -> T {
+        let turn = self.turns % choices.len();
+        self.turns += 1;
+        choices[turn]
     }
 
     /// A form that fits. The rows take turns, so that a dozen inputs have every one.
@@ -82,6 +92,14 @@ impl Maker {
     pub fn fault(&mut self, fault: Fault) -> Vec<u8> {
         let bad = fault.encode(ALL, &mut self.random);
         bad.map_or_else(Vec::new, |bad| bad.code)
+    }
+
+    /// An encoding with another map or with wrong fixed bits, cut.
+    pub fn map_and_cut(&mut self) -> Vec<u8> {
+        let fault = self.random.pick(&[Fault::OtherMap, Fault::FixedBits]);
+        let mut code = self.fault(fault);
+        self.cut(&mut code);
+        code
     }
 
     pub fn behind_prefix(&mut self) -> Vec<u8> {

@@ -19,8 +19,8 @@ pub struct Step {
     pub code: Vec<u8>,
 }
 
-pub const KINDS: [Kind<Step>; 20] = [
-    ("accepted", 7_600, accepted),
+pub const KINDS: [Kind<Step>; 23] = [
+    ("accepted", 6_400, accepted),
     ("few registers", 2_000, few_registers),
     ("bytes behind", 800, bytes_behind),
     ("length of memory", 1_800, memory_length),
@@ -33,6 +33,9 @@ pub const KINDS: [Kind<Step>; 20] = [
     ("one byte replaced", 500, replaced),
     ("cut", 500, cut),
     ("no row", 200, no_row),
+    ("another map", 300, other_map),
+    ("fixed bits, any map", 700, fixed_bits),
+    ("map or fixed bits, cut", 200, map_and_cut),
     ("reserved field", 600, reserved),
     ("several reserved fields", 500, several_reserved),
     ("reserved fields, cut", 200, reserved_and_cut),
@@ -160,6 +163,22 @@ fn cut(maker: &mut Maker) -> Step {
 
 fn no_row(maker: &mut Maker) -> Step {
     fault(Fault::NoRow, maker)
+}
+
+fn other_map(maker: &mut Maker) -> Step {
+    fault(Fault::OtherMap, maker)
+}
+
+fn fixed_bits(maker: &mut Maker) -> Step {
+    fault(Fault::FixedBits, maker)
+}
+
+/// Short bytes, or what the map or the fixed bits answer before that shows.
+fn map_and_cut(maker: &mut Maker) -> Step {
+    let features = maker.features();
+    let code = maker.map_and_cut();
+    let input = Step::new(code, maker);
+    Step { features, ..input }
 }
 
 fn reserved(maker: &mut Maker) -> Step {

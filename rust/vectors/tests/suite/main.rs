@@ -3,10 +3,12 @@
 mod addresses;
 mod features;
 mod listings;
+mod maps;
 mod reasons;
 mod samples;
 mod stored;
 
+use inputs::limits::features::ALL;
 use std::sync::OnceLock;
 use vectors::Vectors;
 
@@ -14,4 +16,15 @@ use vectors::Vectors;
 fn vectors() -> &'static Vectors {
     static VECTORS: OnceLock<Vectors> = OnceLock::new();
     VECTORS.get_or_init(Vectors::generate)
+}
+
+/// The list from its first refused instruction on.
+fn from_refused(mut code: &[u8]) -> &[u8] {
+    loop {
+        let decoded = reference::decode(code, ALL);
+        if code.is_empty() || decoded.status != 0 {
+            return code;
+        }
+        code = &code[decoded.length as usize..];
+    }
 }

@@ -1,6 +1,6 @@
 //! Every reason of status 4 has inputs, and so has every pair of fields that can be wrong at once.
 
-use crate::vectors;
+use crate::{from_refused, vectors};
 use inputs::limits::features::ALL;
 use inputs::reserved::possible_pairs;
 use std::collections::BTreeMap;
@@ -37,7 +37,7 @@ fn wrong_pair(code: &[u8]) -> Option<[u32; 2]> {
     let first = reference::decode(code, ALL).reason;
     let mut code = code.to_vec();
     match (first, code.first()?) {
-        (1, _) => (code[1], code[2]) = (code[1] & !0x0C, code[2] | 0x04),
+        (1, _) => (code[1], code[2]) = (code[1] & !0x08, code[2] | 0x04),
         (2, _) => code[2] &= 0x7F,
         (3, 0x62) => code[3] &= 0x9F,
         (3, _) => code[2] |= 0x04,
@@ -66,17 +66,6 @@ fn expect_pairs<'a>(what: &str, codes: impl Iterator<Item = &'a [u8]>) {
 
 fn all<I>(samples: &Samples<I>) -> impl Iterator<Item = &I> {
     samples.iter().flat_map(|(_, inputs)| inputs)
-}
-
-/// The list from its first refused instruction on.
-fn from_refused(mut code: &[u8]) -> &[u8] {
-    loop {
-        let decoded = reference::decode(code, ALL);
-        if code.is_empty() || decoded.status != 0 {
-            return code;
-        }
-        code = &code[decoded.length as usize..];
-    }
 }
 
 #[test]

@@ -79,9 +79,12 @@ fn every_form_is_decoded_carried_out_and_addressed() {
 
 /// Kinds without every row. Of the damaged ones no input, or hardly one, is an instruction as the
 /// table has it, and only a few instructions have 4 bytes.
-const WITHOUT_EVERY_ROW: [&str; 9] = [
+const WITHOUT_EVERY_ROW: [&str; 12] = [
     "cut",
     "no row",
+    "another map",
+    "fixed bits, any map",
+    "map or fixed bits, cut",
     "reserved field",
     "several reserved fields",
     "reserved fields, cut",
@@ -179,6 +182,22 @@ fn long_lists_are_run() {
         assert!(found >= least, "{name}: {found} runs");
     }
     assert!(ran.iter().all(|ran| ran.1 <= 4_096));
+}
+
+/// A run has no memory, and a map no control in a register besides.
+#[test]
+fn long_lists_are_refused_with_every_status() {
+    let expected = [("run", &[0, 2, 3, 4, 6][..]), ("build", &[2, 3, 4, 7])];
+    for (name, statuses) in expected {
+        let mut sections = vectors().sections.iter();
+        let section = sections.find(|section| section.name == name);
+        let mut kinds = section.expect("a section").kinds.iter();
+        let late = kinds.find(|(kind, _)| *kind == "over 4,096 bytes, refused");
+        let (_, counts) = late.expect("a kind");
+        for &status in statuses {
+            assert!(counts.of(status) >= 2, "{name}: {counts:?}");
+        }
+    }
 }
 
 fn all(samples: &Samples<ListInput>) -> impl Iterator<Item = &ListInput> {
