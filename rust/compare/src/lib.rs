@@ -10,8 +10,9 @@ pub mod guard;
 pub mod instructions;
 pub mod listings;
 pub mod mapping;
+pub mod refusing;
 pub mod running;
 pub mod stepping;
 
-pub use inputs::{addresses, encoding, faults, feature_sets, form, limits, lists, operand};
+pub use inputs::{addresses, encoding, faults, feature_sets, form, limits, lists, maps, operand};
 pub use inputs::{random, reserved, state, tally};
