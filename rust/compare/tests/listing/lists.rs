@@ -7,9 +7,11 @@ use compare::lists::{List, Mix};
 use compare::random::Random;
 
 /// What a list can be refused for with all features, with the statuses.
-pub const FAULTS: [(Fault, u32); 4] = [
+pub const FAULTS: [(Fault, u32); 6] = [
     (Fault::Short, 2),
     (Fault::NoRow, 3),
+    (Fault::OtherMap, 3),
+    (Fault::FixedBits, 4),
     (Fault::Reserved, 4),
     (Fault::SeveralReserved, 4),
 ];
