@@ -16,6 +16,9 @@
 //! Request 6: a set of features that no processor has answers 1 ([`request_6`]). Those over 31 did at
 //! the base, so that they answer the same again.
 //!
+//! Request 7: a set bit 2 of EVEX P, which answered 4, is a map that no row has, and answers 3
+//! ([`request_7`]). The library is not asked about such bytes.
+//!
 //! Lists are gone through here, an instruction at a time, as document 01 says it: the library is
 //! asked about single instructions, which no limit is for. At the base that gives the base's
 //! answers, and with all requests today's, which a test sees on every stored input.
@@ -28,6 +31,7 @@ use crate::lane_permutes::{self, Instruction};
 use crate::needs::needed_features;
 use crate::request_3;
 use crate::request_6;
+use crate::request_7;
 use crate::today;
 
 const FILE_SIZE: usize = 2_048;
@@ -60,6 +64,7 @@ pub enum Landed {
     Request3,
     Request5,
     Request6,
+    Request7,
 }
 
 /// What bytes at the start of some code are.
@@ -74,14 +79,15 @@ enum Found {
 
 impl Landed {
     /// In the order of their landings.
-    pub const ALL: [Landed; 5] = [
+    pub const ALL: [Landed; 6] = [
         Landed::Base,
         Landed::Request1,
         Landed::Request3,
         Landed::Request5,
+        Landed::Request6,
         Landed::TODAY,
     ];
-    pub const TODAY: Landed = Landed::Request6;
+    pub const TODAY: Landed = Landed::Request7;
 
     /// The answer to an input; none for maps that are applied or composed, which have no code.
     pub fn answer(self, input: &Input) -> Option<Answer> {
@@ -112,7 +118,7 @@ impl Landed {
     fn code_limit(self) -> usize {
         match self {
             Landed::Base | Landed::Request1 | Landed::Request3 => 4_096,
-            Landed::Request5 | Landed::Request6 => 16_384,
+            Landed::Request5 | Landed::Request6 | Landed::Request7 => 16_384,
         }
     }
 
@@ -120,7 +126,7 @@ impl Landed {
     fn text_least(self) -> usize {
         match self {
             Landed::Base | Landed::Request1 | Landed::Request3 => 25_624,
-            Landed::Request5 | Landed::Request6 => 64,
+            Landed::Request5 | Landed::Request6 | Landed::Request7 => 64,
         }
     }
 
@@ -140,7 +146,7 @@ impl Landed {
         match self.find(code, features) {
             Found::New(instruction) => instruction.decoded,
             Found::Refused(status) => Decoded::refused(status),
-            Found::Other => other(code, features),
+            Found::Other => self.other(code, features),
         }
     }
 
@@ -190,7 +196,7 @@ impl Landed {
                 (0, new.decoded.length)
             }
             Found::Refused(status) => (status, 0),
-            Found::Other => match other(code, features).status {
+            Found::Other => match self.other(code, features).status {
                 0 => today::stepped(code, file, masks, BASE_FEATURES, memory),
                 status => (status, 0),
             },
@@ -279,7 +285,7 @@ impl Landed {
                 (0, new.decoded.length)
             }
             Found::Refused(status) => (status, 0),
-            Found::Other => map_other(code, entries, masks, features),
+            Found::Other => self.map_other(code, entries, masks, features),
         }
     }
 
@@ -338,6 +344,45 @@ impl Landed {
         let reason = request_3::reason(code).expect("with 4 a field is wrong");
         format!("4:{reason}")
     }
+
+    /// Decodes bytes that request 1 says nothing of, once answer 1 is out of the question. Features
+    /// are looked at last, as in document 01.
+    fn other(self, code: &[u8], features: u32) -> Decoded {
+        if request_7::has_map_from_4_on(code) {
+            let status = if self < Landed::Request7 { 4 } else { 3 };
+            return Decoded::refused(status);
+        }
+        let decoded = today::decoded(code, BASE_FEATURES);
+        if decoded.status == 0 && needed_features(&decoded) & !features != 0 {
+            return Decoded::refused(5);
+        }
+        decoded
+    }
+
+    /// An instruction of the base: its own map, and the entries that this names.
+    fn map_other(
+        self,
+        code: &[u8],
+        entries: &mut [u16],
+        masks: &[u64],
+        features: u32,
+    ) -> (u32, u32) {
+        let decoded = self.other(code, features);
+        if decoded.status != 0 {
+            return (decoded.status, 0);
+        }
+        let mut own = [0; MAP_SIZE];
+        let code = &code[..decoded.length as usize];
+        let (status, _) = today::built(code, masks, BASE_FEATURES, &mut own);
+        if status != 0 {
+            return (status, 0);
+        }
+        let old = entries.to_vec();
+        for (entry, from) in entries.iter_mut().zip(own) {
+            *entry = old.get(usize::from(from)).copied().unwrap_or(MAP_ZERO);
+        }
+        (0, decoded.length)
+    }
 }
 
 /// As many whole lines of a text as fit into so many bytes. At the base, all of them do.
@@ -345,33 +390,4 @@ pub fn whole_lines(text: &str, size: usize) -> &str {
     let fitting = &text[..size.min(text.len())];
     let end = fitting.rfind('\n').map_or(0, |newline| newline + 1);
     &text[..end]
-}
-
-/// Decodes bytes that request 1 says nothing of, once answer 1 is out of the question. Features are
-/// looked at last, as in document 01.
-fn other(code: &[u8], features: u32) -> Decoded {
-    let decoded = today::decoded(code, BASE_FEATURES);
-    if decoded.status == 0 && needed_features(&decoded) & !features != 0 {
-        return Decoded::refused(5);
-    }
-    decoded
-}
-
-/// An instruction of the base: its own map, and the entries that this names.
-fn map_other(code: &[u8], entries: &mut [u16], masks: &[u64], features: u32) -> (u32, u32) {
-    let decoded = other(code, features);
-    if decoded.status != 0 {
-        return (decoded.status, 0);
-    }
-    let mut own = [0; MAP_SIZE];
-    let code = &code[..decoded.length as usize];
-    let (status, _) = today::built(code, masks, BASE_FEATURES, &mut own);
-    if status != 0 {
-        return (status, 0);
-    }
-    let old = entries.to_vec();
-    for (entry, from) in entries.iter_mut().zip(own) {
-        *entry = old.get(usize::from(from)).copied().unwrap_or(MAP_ZERO);
-    }
-    (0, decoded.length)
 }

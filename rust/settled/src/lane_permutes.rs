@@ -65,7 +65,8 @@ struct Prefix {
 }
 
 impl Prefix {
-    /// Nothing if it ends too soon, has a wrong fixed bit, or is none.
+    /// Nothing if it ends too soon, has a wrong fixed bit, or is none. EVEX P bit 2 was a fixed bit
+    /// until request 7; with it set the map is now one that no row has, so that it is nothing still.
     fn read(code: &[u8]) -> Option<Prefix> {
         match *code {
             // Without X, B, map and W: they are 0, 0, 1 and 0.

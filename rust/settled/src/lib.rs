@@ -24,6 +24,7 @@ pub mod records;
 pub mod report;
 pub mod request_3;
 pub mod request_6;
+pub mod request_7;
 pub mod results;
 pub mod room;
 pub mod rules;

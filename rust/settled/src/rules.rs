@@ -78,6 +78,11 @@ pub const RULES: &[Rule] = &[
         name: "a set of features that no processor has is refused with 1",
         explains: |input, old, new| is_changed_by(Landed::Request6, input, old, new),
     },
+    Rule {
+        request: 7,
+        name: "EVEX P bit 2 is part of the map, and no row has the maps 4 to 7",
+        explains: |input, old, new| is_changed_by(Landed::Request7, input, old, new),
+    },
 ];
 
 /// Features that request 1 no longer refuses. With fewer, and in listings, which take none, its new

@@ -7,6 +7,7 @@ mod request_1;
 mod request_3;
 mod request_5;
 mod request_6;
+mod request_7;
 mod rules;
 mod settled;
 mod tools;

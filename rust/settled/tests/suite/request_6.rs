@@ -1,7 +1,7 @@
 //! Request 6 by itself: the sets that it refuses, what the base's rows need, the frozen inputs with
 //! such sets and with others, and the answers that its rule takes and does not take.
 
-use crate::tools::{answers, base, expect_rule, inputs, rule};
+use crate::tools::{answers, base, expect_none, expect_rule, inputs, rule};
 use settled::answer::Answer;
 use settled::decoded::Decoded;
 use settled::digest::Digest;
@@ -58,7 +58,7 @@ fn features_that_the_bases_rows_need() {
 }
 
 /// Every frozen input with such a set answers 1 and changes nothing, and every other answers what it
-/// did before the request.
+/// did before the request. What request 7 has made of that since, its own tests see.
 #[test]
 fn frozen_inputs_with_and_without_such_sets() {
     let base = base();
@@ -71,12 +71,14 @@ fn frozen_inputs_with_and_without_such_sets() {
             let features = input.features().filter(|&features| features < 64);
             let is_refused = features.is_some_and(no_processor_has);
             let expected = if is_refused { refusal(&input) } else { before };
-            let name = entry_point.name();
-            let now = today::answer(&input);
-            assert_eq!(now, expected, "{name}, record {number} from 0\n{input}");
-            match is_refused {
-                true => refused += 1,
-                false => others += 1,
+            let place = format!("{}, record {number} from 0\n{input}", entry_point.name());
+            let found = Landed::Request6.answer(&input);
+            assert_eq!(found.as_ref(), Some(&expected), "{place}");
+            if is_refused {
+                assert_eq!(today::answer(&input), expected, "{place}");
+                refused += 1;
+            } else {
+                others += 1;
             }
         }
         let name = entry_point.name();
@@ -157,17 +159,5 @@ fn rule_takes_nothing_else() {
     let base_row = &STEPS[..5];
     for features in LEFT.into_iter().filter(|&features| features < 32) {
         with_features(features, base_row).for_each(|input| expect_none(&input));
-    }
-}
-
-/// No other status has a rule.
-fn expect_none(input: &Input) {
-    let [old, _] = answers(input);
-    for status in (0..10).filter(|status| *status != old.status) {
-        let new = Answer {
-            status,
-            ..old.clone()
-        };
-        assert_eq!(rule(input, &old, &new), None, "{input}\n{new}");
     }
 }

@@ -77,6 +77,25 @@ pub fn answers(input: &Input) -> [Answer; 2] {
     [answer(Landed::Base), answer(Landed::TODAY)]
 }
 
+/// A listing's text that ends with reason 1, with a 3 in the place of the 4 and the reason.
+pub fn with_3(text: &str) -> String {
+    let before = text.strip_suffix("4:1\n");
+    let before = before.unwrap_or_else(|| panic!("no reason 1 at the end of\n{text}"));
+    format!("{before}3\n")
+}
+
+/// No other status than the old one has a rule.
+pub fn expect_none(input: &Input) {
+    let [old, _] = answers(input);
+    for status in (0..10).filter(|status| *status != old.status) {
+        let new = Answer {
+            status,
+            ..old.clone()
+        };
+        assert_eq!(rule(input, &old, &new), None, "{input}\n{new}");
+    }
+}
+
 /// The right answer has this rule, and one that is wrong in any part has none.
 pub fn expect_rule(input: &Input, number: usize) {
     let [old, right] = answers(input);
