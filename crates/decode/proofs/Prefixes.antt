@@ -1,5 +1,6 @@
--- Rules 2.5 and 5.5 (request 7), of all bytes that begin with a prefix and an opcode. Under 62 the answer is 4 for the fixed bits exactly if P bit 3 is not 0
--- or Q bit 2 not 1. Otherwise it is 3 under each prefix, if the map or pp is one that no row has: no other bit counts for that, and no byte behind.
+-- Laws of the prefixes, rules 2.3, 2.5 and 5.5 (request 7). Each field is a number of no more bits than it has. Of bytes that begin with a prefix and an
+-- opcode, under features that pass: with 62 the answer is 4 for the fixed bits exactly if P bit 3 is not 0 or Q bit 2 not 1; otherwise it is 3, with each
+-- prefix, if the map or pp is one that no row has. No other bit counts for that, and no byte behind.
 use Prim.Native.Nat.{ℕ, _<_, _/_, _%_}
 use mathlib.Core.Path.{_≡_, refl, _∙_, sym, ap}
 use mathlib.Core.Bool.{Bool, true, false, not}
@@ -25,6 +26,23 @@ use Rattle.decode.specs.declared.prefix.Prefix.{Prefix}
 use Rattle.decode.specs.declared.prefix.Head.{Head}
 use Rattle.decode.specs.declared.instruction.Decoded.the-variants.{Refused}
 use Rattle.decode.proofs.Reasons.{first-wrong}
+
+-- ---- the fields' ranges: with `specs/Bits.antt`, each field is its own bits and no others
+
+abbrev pub Ranged : ℕ → ℕ → ℕ → ℕ → Prefix → Type 0
+Ranged rs vs maps widths f =
+    (f .r < rs) × (f .x < 2) × (f .b < 2) × (f .v < vs) × (f .map < maps) × (f .pp < 4) × (f .w < 2) × (f .width < widths) × (f .z < 2) × (f .broadcast < 2) × (f .mask < 8)
+
+pub ranged-c5 : (p : ℕ) → Ranged 2 16 32 2 (vex2Of p)
+ranged-c5 p = (omega arith, omega arith, omega arith, omega arith, omega arith, omega arith, omega arith, omega arith, omega arith, omega arith, omega arith)
+
+pub ranged-c4 : (p q : ℕ) → Ranged 2 16 32 2 (vex3Of p q)
+ranged-c4 p q = (omega arith, omega arith, omega arith, omega arith, omega arith, omega arith, omega arith, omega arith, omega arith, omega arith, omega arith)
+
+pub ranged-62 : (p q s : ℕ) → Ranged 4 32 8 4 (evexOf p q s)
+ranged-62 p q s = (omega arith, omega arith, omega arith, omega arith, omega arith, omega arith, omega arith, omega arith, omega arith, omega arith, omega arith)
+
+-- ---- the answer
 
 -- the maps and the values of pp that rows have
 abbrev pub isMap : ℕ → Bool

@@ -1,5 +1,6 @@
 -- Rule 2.3 the other way round: the bytes of a prefix, put together from its fields. Each of the 256 values of a byte comes out as it was, so that no bit
--- is lost, is in two fields or in another's place. The fixed bits of 62 are in no field, and are added.
+-- is lost or in another's place; that no field has more bits than its own is `Ranged` in `proofs/Prefixes.antt`. The fixed bits of 62 are in no field, and
+-- are added. V'.vvvv takes bits of Q and of S: each of the two is computed with none and with all bits of the other.
 use Prim.Native.Nat.{ℕ, _+_, _-_, _*_, _/_, _%_}
 use mathlib.Core.Path.{_≡_, refl}
 use mathlib.Core.List.{List}
@@ -43,7 +44,6 @@ pub p-bits-of-62 : (q s : ℕ) → tabulate 256 (λ x. pOf62 (evexOf x q s) + 8 
 unfolding tabulate
 p-bits-of-62 q s = refl
 
--- v takes bits of Q and of S: each byte with none and with all bits of the other
 pub q-bits-of-62 : (p : ℕ)
     → (tabulate 256 (λ x. qOf62 (evexOf p x 0x00) + 4 * bit x 2) ≡ everyByte) × (tabulate 256 (λ x. qOf62 (evexOf p x 0xFF) + 4 * bit x 2) ≡ everyByte)
 unfolding tabulate
