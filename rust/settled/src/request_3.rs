@@ -31,8 +31,8 @@ fn vex(map: u8, q: u8, opcode: u8) -> [bool; 6] {
     [false, w, width, vvvv, false, false]
 }
 
-/// The same. Under EVEX a wrong W finds no row. P bit 2 was a fixed bit until request 7; where it alone
-/// is set, the instruction answers 3 since, and nobody asks.
+/// The same. Under EVEX a wrong W finds no row. P bit 2 was a fixed bit until request 7, and the
+/// landings before that one ask for its reason.
 fn evex([p, q, s]: [u8; 3], opcode: u8, modrm: Option<u8>) -> [bool; 6] {
     let map = p & 0x03;
     let is_register = modrm.is_some_and(|modrm| modrm >> 6 == 3);
