@@ -1,7 +1,8 @@
 //! Request 7: bits 2:0 of an EVEX prefix's P are the map, and bit 3 alone is fixed there.
 
 use crate::support::{refusal, varied_file, ALL, OPEN, SETS};
-use reference::{address, build, decode, listing, run, step, Decoded};
+use reference::{address, build, decode, listing, run, step};
+use reference::{Addressed, Built, Decoded, Listed, Ran, Stepped};
 
 /// An instruction of each EVEX row, VPSHUFB's with either W, that all features accept.
 const ACCEPTED: [&[u8]; 12] = [
@@ -42,32 +43,94 @@ fn equations_of_the_request() {
     }
 }
 
-/// The other calls give what decoding gives, behind an accepted step and alone.
+/// An address and a step are refused as decoding is, and the file stays as it was.
 #[test]
-fn equations_by_every_call() {
+fn equations_by_address_and_step() {
     for (code, status, reason) in EQUATIONS {
+        let refused = Addressed {
+            status,
+            reason,
+            has_address: false,
+            address: 0,
+        };
         let found = address(code, ALL, &[7; 16], 9);
-        assert_eq!((found.status, found.reason), (status, reason));
+        assert_eq!(found, refused, "{code:02X?}");
         let mut file = varied_file();
         let stepped = step(code, &mut file, &OPEN, ALL, &[]);
-        assert_eq!((stepped.status, stepped.reason), (status, reason));
-        assert_eq!(file, varied_file());
-        let list = [&[0xC5, 0xE8, 0x14, 0xCB], code].concat();
+        let length = 0;
+        let refused = Stepped {
+            status,
+            length,
+            reason,
+        };
+        assert_eq!(stepped, refused, "{code:02X?}");
+        assert_eq!(file, varied_file(), "{code:02X?}");
+    }
+}
+
+/// VUNPCKLPS xmm1, xmm2, xmm3, which is accepted.
+const STEP: [u8; 4] = [0xC5, 0xE8, 0x14, 0xCB];
+
+/// Behind an accepted step, a run stops with that step's file, and building leaves the byte map as it
+/// was.
+#[test]
+fn equations_by_run_and_build() {
+    let mut done = varied_file();
+    let accepted = Stepped {
+        status: 0,
+        length: 4,
+        reason: 0,
+    };
+    assert_eq!(step(&STEP, &mut done, &OPEN, ALL, &[]), accepted);
+    assert_ne!(done, varied_file());
+    for (code, status, reason) in EQUATIONS {
+        let list = [&STEP, code].concat();
+        let mut file = varied_file();
         let ran = run(&list, &mut file, &OPEN, ALL, 9);
-        assert_eq!((ran.place, ran.status, ran.reason), (4, status, reason));
-        let built = build(&list, &OPEN, ALL, &mut [0; 2_048]);
-        assert_eq!(
-            (built.place, built.status, built.reason),
-            (4, status, reason)
-        );
-        let mut text = [0; 100];
+        let (steps, place) = (1, 4);
+        let stopped = Ran {
+            steps,
+            place,
+            status,
+            reason,
+        };
+        assert_eq!(ran, stopped, "{code:02X?}");
+        assert_eq!(file, done, "{code:02X?}");
+        let mut map = [9; 2_048];
+        let built = build(&list, &OPEN, ALL, &mut map);
+        let refused = Built {
+            place,
+            status,
+            reason,
+        };
+        assert_eq!(built, refused, "{code:02X?}");
+        assert_eq!(map, [9; 2_048], "{code:02X?}");
+    }
+}
+
+/// A listing from the refused instruction on has its line, and leaves the bytes behind that as they
+/// were.
+#[test]
+fn equations_by_listing() {
+    for (code, status, reason) in EQUATIONS {
+        let list = [&STEP, code].concat();
+        let mut text = [9; 100];
         let listed = listing(&list, 4, &mut text);
         let answer = match status {
             4 => format!("4:{reason}"),
             _ => status.to_string(),
         };
         let line = format!("4\t0\t-\t0\t{answer}\n");
-        assert_eq!(&text[..listed.written as usize], line.as_bytes());
+        let written = Listed {
+            written: line.len() as u64,
+            next: 4,
+            status: 0,
+            more: false,
+        };
+        assert_eq!(listed, written, "{code:02X?}");
+        let (found, behind) = text.split_at(line.len());
+        assert_eq!(found, line.as_bytes(), "{code:02X?}");
+        assert!(behind.iter().all(|&byte| byte == 9), "{code:02X?}");
     }
 }
 
@@ -119,14 +182,20 @@ fn every_map_and_every_value_of_the_fixed_bits() {
 fn short_bytes_under_every_map() {
     for accepted in forms() {
         for (code, whole) in under_every_map(&accepted) {
-            for length in 0..code.len() {
-                let expected = match (length, whole.status) {
-                    (0..5, _) | (_, 0) => refusal(2, 0),
-                    _ => whole,
-                };
-                assert_eq!(decode(&code[..length], ALL), expected, "{code:02X?}");
-            }
+            check_cuts(&code, whole);
         }
+    }
+}
+
+/// Cut at every length. The whole instruction decodes to `whole`.
+fn check_cuts(code: &[u8], whole: Decoded) {
+    for length in 0..code.len() {
+        let expected = match (length, whole.status) {
+            (0..5, _) | (_, 0) => refusal(2, 0),
+            _ => whole,
+        };
+        let found = decode(&code[..length], ALL);
+        assert_eq!(found, expected, "{length} bytes of {code:02X?}");
     }
 }
 
