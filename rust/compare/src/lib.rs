@@ -14,5 +14,5 @@ pub mod refusing;
 pub mod running;
 pub mod stepping;
 
-pub use inputs::{addresses, encoding, faults, feature_sets, form, limits, lists, maps, operand};
-pub use inputs::{random, reserved, state, tally};
+pub use inputs::{addresses, encoding, faults, feature_sets, form, limits, lists};
+pub use inputs::{opcode_maps, operand, random, reserved, state, tally};

@@ -4,7 +4,7 @@ use crate::encoding::Prefix;
 use crate::form::Form;
 use crate::limits::features::ALL;
 use crate::lists::{List, Mix};
-use crate::maps::{evex_shapes, OTHER_MAPS};
+use crate::opcode_maps::{evex_shapes, OTHER_OPCODE_MAPS};
 use crate::random::Random;
 use crate::reserved::{possible_pairs, Field, Pair, Wrong};
 use std::sync::LazyLock;
@@ -15,9 +15,9 @@ pub enum Fault {
     /// The bytes end inside the instruction. Nothing can follow it.
     Short,
     NoRow,
-    /// An EVEX map that no row has: 0, or 4 to 7 (request 7).
-    OtherMap,
-    /// Wrong fixed bits, under any map.
+    /// An EVEX opcode map that no row has: 0, or 4 to 7 (request 7).
+    OtherOpcodeMap,
+    /// Wrong fixed bits, under any opcode map.
     FixedBits,
     /// One reserved field is wrong.
     Reserved,
@@ -41,7 +41,7 @@ pub struct Bad {
 pub const RUN_FAULTS: [(Fault, u32); 8] = [
     (Fault::Short, 2),
     (Fault::NoRow, 3),
-    (Fault::OtherMap, 3),
+    (Fault::OtherOpcodeMap, 3),
     (Fault::FixedBits, 4),
     (Fault::Reserved, 4),
     (Fault::SeveralReserved, 4),
@@ -53,7 +53,7 @@ pub const RUN_FAULTS: [(Fault, u32); 8] = [
 pub const BUILD_FAULTS: [(Fault, u32); 9] = [
     (Fault::Short, 2),
     (Fault::NoRow, 3),
-    (Fault::OtherMap, 3),
+    (Fault::OtherOpcodeMap, 3),
     (Fault::FixedBits, 4),
     (Fault::Reserved, 4),
     (Fault::SeveralReserved, 4),
@@ -74,7 +74,7 @@ impl Fault {
     pub fn encode(self, features: u32, random: &mut Random) -> Option<Bad> {
         let mix = match self {
             Fault::NoRow => return Some(without_reason(no_row(random))),
-            Fault::OtherMap => return Some(without_reason(other_map(random))),
+            Fault::OtherOpcodeMap => return Some(without_reason(other_opcode_map(random))),
             Fault::FixedBits => return Some(fixed_bits(random)),
             Fault::Reserved => return Some(reserved(random)),
             Fault::SeveralReserved => return Some(several_reserved(random)),
@@ -123,15 +123,15 @@ fn no_row(random: &mut Random) -> Vec<u8> {
     code
 }
 
-/// An EVEX instruction under a map that no row has, each as often.
-fn other_map(random: &mut Random) -> Vec<u8> {
+/// An EVEX instruction under an opcode map that no row has, each as often.
+fn other_opcode_map(random: &mut Random) -> Vec<u8> {
     let shape = random.pick(&evex_shapes());
     let mut code = shape.encode(random);
-    shape.set_map(&mut code, random.pick(&OTHER_MAPS));
+    shape.set_map(&mut code, random.pick(&OTHER_OPCODE_MAPS));
     code
 }
 
-/// An EVEX instruction with either fixed bit wrong or both, under any map, each as often.
+/// An EVEX instruction with either fixed bit wrong or both, under any opcode map, each as often.
 fn fixed_bits(random: &mut Random) -> Bad {
     let shape = random.pick(&evex_shapes());
     let mut code = shape.encode(random);

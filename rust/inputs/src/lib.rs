@@ -13,7 +13,7 @@ mod fields;
 pub mod form;
 pub mod limits;
 pub mod lists;
-pub mod maps;
+pub mod opcode_maps;
 pub mod operand;
 pub mod random;
 pub mod reserved;

@@ -36,9 +36,9 @@ pub const KINDS: [Kind<Address>; 24] = [
     ("one byte replaced", 400, replaced),
     ("cut", 500, cut),
     ("no row", 200, no_row),
-    ("another map", 200, other_map),
-    ("fixed bits, any map", 700, fixed_bits),
-    ("map or fixed bits, cut", 100, map_and_cut),
+    ("another opcode map", 200, other_opcode_map),
+    ("fixed bits, any opcode map", 700, fixed_bits),
+    ("opcode map or fixed bits, cut", 100, opcode_map_and_cut),
     ("reserved field", 500, reserved),
     ("several reserved fields", 600, several_reserved),
     ("reserved fields, cut", 200, reserved_and_cut),
@@ -163,8 +163,8 @@ fn no_row(maker: &mut Maker) -> Address {
     fault(Fault::NoRow, maker)
 }
 
-fn other_map(maker: &mut Maker) -> Address {
-    fault(Fault::OtherMap, maker)
+fn other_opcode_map(maker: &mut Maker) -> Address {
+    fault(Fault::OtherOpcodeMap, maker)
 }
 
 fn fixed_bits(maker: &mut Maker) -> Address {
@@ -172,9 +172,9 @@ fn fixed_bits(maker: &mut Maker) -> Address {
 }
 
 /// Short bytes, or what the map or the fixed bits answer before that shows.
-fn map_and_cut(maker: &mut Maker) -> Address {
+fn opcode_map_and_cut(maker: &mut Maker) -> Address {
     let features = maker.features();
-    let code = maker.map_and_cut();
+    let code = maker.opcode_map_and_cut();
     let input = Address::new(code, maker);
     Address { features, ..input }
 }

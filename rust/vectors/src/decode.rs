@@ -25,9 +25,9 @@ pub const KINDS: [Kind<Decode>; 19] = [
     ("one byte replaced", 1_000, replaced),
     ("cut", 1_000, cut),
     ("no row", 600, no_row),
-    ("another map", 300, other_map),
-    ("fixed bits, any map", 700, fixed_bits),
-    ("map or fixed bits, cut", 200, map_and_cut),
+    ("another opcode map", 300, other_opcode_map),
+    ("fixed bits, any opcode map", 700, fixed_bits),
+    ("opcode map or fixed bits, cut", 200, opcode_map_and_cut),
     ("reserved field", 1_000, reserved),
     ("several reserved fields", 1_000, several_reserved),
     ("reserved fields, cut", 300, reserved_and_cut),
@@ -137,8 +137,8 @@ fn no_row(maker: &mut Maker) -> Decode {
     fault(Fault::NoRow, maker)
 }
 
-fn other_map(maker: &mut Maker) -> Decode {
-    fault(Fault::OtherMap, maker)
+fn other_opcode_map(maker: &mut Maker) -> Decode {
+    fault(Fault::OtherOpcodeMap, maker)
 }
 
 fn fixed_bits(maker: &mut Maker) -> Decode {
@@ -146,10 +146,10 @@ fn fixed_bits(maker: &mut Maker) -> Decode {
 }
 
 /// Short bytes, or what the map or the fixed bits answer before that shows.
-fn map_and_cut(maker: &mut Maker) -> Decode {
+fn opcode_map_and_cut(maker: &mut Maker) -> Decode {
     Decode {
         features: maker.features(),
-        code: maker.map_and_cut(),
+        code: maker.opcode_map_and_cut(),
     }
 }
 

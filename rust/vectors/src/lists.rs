@@ -37,9 +37,9 @@ pub const KINDS: [Kind<ListInput>; 28] = [
     ("accepted", 3_956, accepted),
     ("short bytes", 1_500, short),
     ("no row", 900, no_row),
-    ("another map", 300, other_map),
-    ("fixed bits, any map", 700, fixed_bits),
-    ("map or fixed bits, cut", 200, map_and_cut),
+    ("another opcode map", 300, other_opcode_map),
+    ("fixed bits, any opcode map", 700, fixed_bits),
+    ("opcode map or fixed bits, cut", 200, opcode_map_and_cut),
     ("reserved field", 1_500, reserved),
     ("several reserved fields", 1_500, several_reserved),
     ("reserved fields, cut", 300, reserved_and_cut),
@@ -68,7 +68,7 @@ pub const KINDS: [Kind<ListInput>; 28] = [
 const LATE_FAULTS: [Fault; 8] = [
     Fault::Short,
     Fault::NoRow,
-    Fault::OtherMap,
+    Fault::OtherOpcodeMap,
     Fault::FixedBits,
     Fault::Reserved,
     Fault::SeveralReserved,
@@ -214,19 +214,19 @@ fn no_row(maker: &mut Maker) -> ListInput {
     with_fault(Fault::NoRow, maker)
 }
 
-fn other_map(maker: &mut Maker) -> ListInput {
-    with_fault(Fault::OtherMap, maker)
+fn other_opcode_map(maker: &mut Maker) -> ListInput {
+    with_fault(Fault::OtherOpcodeMap, maker)
 }
 
 fn fixed_bits(maker: &mut Maker) -> ListInput {
     with_fault(Fault::FixedBits, maker)
 }
 
-/// A list that ends inside an instruction with another map or with wrong fixed bits.
-fn map_and_cut(maker: &mut Maker) -> ListInput {
+/// A list that ends inside an instruction with another opcode map or with wrong fixed bits.
+fn opcode_map_and_cut(maker: &mut Maker) -> ListInput {
     let features = features(&mut maker.random);
     let mut code = list(features, &mut maker.random).code;
-    code.extend(maker.map_and_cut());
+    code.extend(maker.opcode_map_and_cut());
     ListInput::new(code, features, maker)
 }
 

@@ -94,9 +94,9 @@ impl Maker {
         bad.map_or_else(Vec::new, |bad| bad.code)
     }
 
-    /// An encoding with another map or with wrong fixed bits, cut.
-    pub fn map_and_cut(&mut self) -> Vec<u8> {
-        let fault = self.random.pick(&[Fault::OtherMap, Fault::FixedBits]);
+    /// An encoding with another opcode map or with wrong fixed bits, cut.
+    pub fn opcode_map_and_cut(&mut self) -> Vec<u8> {
+        let fault = self.random.pick(&[Fault::OtherOpcodeMap, Fault::FixedBits]);
         let mut code = self.fault(fault);
         self.cut(&mut code);
         code

@@ -33,9 +33,9 @@ pub const KINDS: [Kind<Step>; 23] = [
     ("one byte replaced", 500, replaced),
     ("cut", 500, cut),
     ("no row", 200, no_row),
-    ("another map", 300, other_map),
-    ("fixed bits, any map", 700, fixed_bits),
-    ("map or fixed bits, cut", 200, map_and_cut),
+    ("another opcode map", 300, other_opcode_map),
+    ("fixed bits, any opcode map", 700, fixed_bits),
+    ("opcode map or fixed bits, cut", 200, opcode_map_and_cut),
     ("reserved field", 600, reserved),
     ("several reserved fields", 500, several_reserved),
     ("reserved fields, cut", 200, reserved_and_cut),
@@ -165,8 +165,8 @@ fn no_row(maker: &mut Maker) -> Step {
     fault(Fault::NoRow, maker)
 }
 
-fn other_map(maker: &mut Maker) -> Step {
-    fault(Fault::OtherMap, maker)
+fn other_opcode_map(maker: &mut Maker) -> Step {
+    fault(Fault::OtherOpcodeMap, maker)
 }
 
 fn fixed_bits(maker: &mut Maker) -> Step {
@@ -174,9 +174,9 @@ fn fixed_bits(maker: &mut Maker) -> Step {
 }
 
 /// Short bytes, or what the map or the fixed bits answer before that shows.
-fn map_and_cut(maker: &mut Maker) -> Step {
+fn opcode_map_and_cut(maker: &mut Maker) -> Step {
     let features = maker.features();
-    let code = maker.map_and_cut();
+    let code = maker.opcode_map_and_cut();
     let input = Step::new(code, maker);
     Step { features, ..input }
 }

@@ -10,7 +10,7 @@ use compare::random::Random;
 pub const FAULTS: [(Fault, u32); 6] = [
     (Fault::Short, 2),
     (Fault::NoRow, 3),
-    (Fault::OtherMap, 3),
+    (Fault::OtherOpcodeMap, 3),
     (Fault::FixedBits, 4),
     (Fault::Reserved, 4),
     (Fault::SeveralReserved, 4),

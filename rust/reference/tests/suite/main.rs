@@ -9,7 +9,7 @@ mod features;
 mod lane_permutes;
 mod listings;
 mod manual;
-mod maps;
+mod opcode_maps;
 mod reasons;
 mod refusals;
 mod runs;

@@ -3,7 +3,7 @@
 mod addresses;
 mod features;
 mod listings;
-mod maps;
+mod opcode_maps;
 mod reasons;
 mod samples;
 mod stored;

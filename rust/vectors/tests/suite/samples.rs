@@ -82,9 +82,9 @@ fn every_form_is_decoded_carried_out_and_addressed() {
 const WITHOUT_EVERY_ROW: [&str; 12] = [
     "cut",
     "no row",
-    "another map",
-    "fixed bits, any map",
-    "map or fixed bits, cut",
+    "another opcode map",
+    "fixed bits, any opcode map",
+    "opcode map or fixed bits, cut",
     "reserved field",
     "several reserved fields",
     "reserved fields, cut",

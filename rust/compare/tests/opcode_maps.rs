@@ -1,13 +1,13 @@
 //! Request 7: over every EVEX row's opcode, pp and W, all values of the prefix's second byte, P, which
-//! has the map and a fixed bit, and both of the fixed bit of the third, Q. What is expected comes from
-//! the generator, so that library and reference cannot be wrong together.
+//! has the opcode map and a fixed bit, and both of the fixed bit of the third, Q. What is expected
+//! comes from the generator, so that library and reference cannot be wrong together.
 
 use compare::decoding::library_fields;
 use compare::encoding::{Prefix, Shape};
 use compare::feature_sets::{self, passes};
 use compare::form::Form;
 use compare::limits::features::SETS;
-use compare::maps::{evex_shapes, Outcome};
+use compare::opcode_maps::{evex_shapes, Outcome};
 use compare::random::Random;
 use compare::refusing::Input;
 use compare::tally::{Counts, Table};
@@ -19,7 +19,7 @@ const LEAST_DECODED: u64 = 4_000_000;
 const LEAST_REFUSED: u64 = 500_000;
 const LEAST_ACCEPTED: u64 = 20_000;
 
-/// The request's codes with status and reason, and the row's own map.
+/// The request's codes with status and reason, and the row's own opcode map.
 #[test]
 fn equations_of_the_request() {
     let cases: [(&[u8], u32, u32); 7] = [
@@ -44,7 +44,7 @@ fn equations_of_the_request() {
     assert_eq!(library_fields(tarhuspo::decode(&own, 5)), accepted);
 }
 
-/// What P and Q are: the map where the fixed bits are right, or which of these are wrong.
+/// What P and Q are: the opcode map where the fixed bits are right, or which of these are wrong.
 const KINDS: [&str; 11] = [
     "map 0",
     "map 1",
@@ -119,12 +119,16 @@ fn decoding_agrees_with_reference() {
             outcomes[outcome as usize] += 1;
         });
     }
-    tally.finish("decodings by map", &[0, 1, 2, 3, 4, 5], LEAST_DECODED);
+    tally.finish(
+        "decodings by opcode map",
+        &[0, 1, 2, 3, 4, 5],
+        LEAST_DECODED,
+    );
     let [fixed_bits, no_row, row] = outcomes;
     println!(
         "{fixed_bits} prefixes with wrong fixed bits, {no_row} without row, {row} with their row"
     );
-    // Of 32 values of map and fixed bits, 24 have a wrong one, 7 another map, and one neither.
+    // Of 32 values of opcode map and fixed bits, 24 have a wrong one, 7 another map, and one neither.
     assert_eq!((fixed_bits, no_row), (24 * row, 7 * row));
     let is_evex = |form: Form| form.shape.prefix == Prefix::Evex;
     comparison.instructions.print("accepted", is_evex);
@@ -279,7 +283,7 @@ impl Accepted {
         self.check_list(form, code, random);
     }
 
-    /// As a list of its own. A run has no memory, and a map no control in a register besides.
+    /// As a list of its own. A run has no memory, and a byte map has none and no control in a register.
     fn check_list(&mut self, form: Form, code: &[u8], random: &mut Random) {
         let length = code.len() as u64;
         let mut case = running::Case::new(random);
@@ -321,7 +325,7 @@ impl Accepted {
     }
 }
 
-/// Every form in its own map, with every R, X, B and R'.
+/// Every form in its own opcode map, with every R, X, B and R'.
 #[test]
 fn accepted_by_every_entry_point() {
     let mut random = Random::new(3);
@@ -334,7 +338,7 @@ fn accepted_by_every_entry_point() {
             }
         });
     }
-    let mut table = Table::new("accepted in their map", &[0, 6, 7]);
+    let mut table = Table::new("accepted in their opcode map", &[0, 6, 7]);
     table.line("address", accepted.addressing.counts);
     table.line("step", accepted.stepping.counts);
     table.line("run", accepted.running.counts);

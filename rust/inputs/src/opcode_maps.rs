@@ -1,16 +1,16 @@
-//! EVEX instructions under every map and with every value of the fixed bits (request 7).
+//! EVEX instructions under every opcode map and with every value of the fixed bits (request 7).
 
 use crate::encoding::{Prefix, Shape};
 
-/// The maps that no row has.
-pub const OTHER_MAPS: [u8; 5] = [0, 4, 5, 6, 7];
+/// The opcode maps that no row has.
+pub const OTHER_OPCODE_MAPS: [u8; 5] = [0, 4, 5, 6, 7];
 
 /// What the second byte of an EVEX prefix and the fixed bit of its third make of an instruction.
 #[derive(Debug, Clone, Copy, PartialEq, Eq, PartialOrd, Ord)]
 pub enum Outcome {
     /// A fixed bit is wrong: bit 3 of the second byte is 1, or bit 2 of the third is 0.
     FixedBits,
-    /// The fixed bits are right, and the map is not the row's.
+    /// The fixed bits are right, and the opcode map is not the row's.
     NoRow,
     Row,
 }
@@ -31,7 +31,7 @@ impl Outcome {
 
 impl Shape {
     /// What becomes of an EVEX instruction of this shape under a second byte `p` and a third byte `q`.
-    /// No opcode of the table stands in two maps.
+    /// No opcode of the table stands in two opcode maps.
     pub fn outcome(self, p: u8, q: u8) -> Outcome {
         let [bit_3, bit_2] = [p >> 3 & 1, q >> 2 & 1];
         match (bit_3, bit_2) {

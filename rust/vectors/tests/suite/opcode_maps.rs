@@ -1,4 +1,4 @@
-//! Every EVEX map has inputs, and so has each wrong fixed bit under every map (request 7).
+//! Every EVEX opcode map has inputs, and so has each wrong fixed bit under every one (request 7).
 
 use crate::from_refused;
 use inputs::limits::features::ALL;
@@ -6,12 +6,12 @@ use std::collections::BTreeMap;
 use vectors::section::Samples;
 use vectors::{address_inputs, decode_inputs, list_inputs, step_inputs};
 
-/// Of each map with right fixed bits, and of each way to have wrong ones under it.
+/// Of each opcode map with right fixed bits, and of each way to have wrong ones under it.
 const LEAST_OF_EACH: u32 = 16;
-/// Of codes that end before the opcode, in which map or fixed bit do not count yet.
+/// Of codes that end before the opcode, in which opcode map or fixed bit do not count yet.
 const LEAST_SHORT: u32 = 24;
 
-/// The map, bit 3 of P, and bit 2 of Q.
+/// The opcode map, bit 3 of P, and bit 2 of Q.
 type Bits = (u8, u8, u8);
 
 /// How many inputs there were with which bits, and how many that end before the opcode.
@@ -45,7 +45,10 @@ impl Found {
     }
 
     fn finish(&self, what: &str) {
-        println!("{what}: {} short, by map and fixed bits:", self.short);
+        println!(
+            "{what}: {} short, by opcode map and fixed bits:",
+            self.short
+        );
         for fixed in [(0, 1), (1, 1), (0, 0), (1, 0)] {
             let counts = (0..8).map(|map| self.bits.get(&(map, fixed.0, fixed.1)));
             let counts: Vec<_> = counts.map(|count| count.copied().unwrap_or(0)).collect();
@@ -60,7 +63,7 @@ impl Found {
     }
 }
 
-fn expect_maps<I>(what: &str, samples: &Samples<I>, code: fn(&I) -> &[u8]) {
+fn expect_opcode_maps<I>(what: &str, samples: &Samples<I>, code: fn(&I) -> &[u8]) {
     let mut found = Found::default();
     let inputs = samples.iter().flat_map(|(_, inputs)| inputs);
     inputs.for_each(|input| found.add(code(input)));
@@ -68,9 +71,9 @@ fn expect_maps<I>(what: &str, samples: &Samples<I>, code: fn(&I) -> &[u8]) {
 }
 
 #[test]
-fn every_map_and_fixed_bit_has_inputs() {
-    expect_maps("decode", &decode_inputs(), |input| &input.code);
-    expect_maps("step", &step_inputs(), |input| &input.code);
-    expect_maps("address", &address_inputs(), |input| &input.code);
-    expect_maps("lists", &list_inputs(), |input| from_refused(&input.code));
+fn every_opcode_map_and_fixed_bit_has_inputs() {
+    expect_opcode_maps("decode", &decode_inputs(), |input| &input.code);
+    expect_opcode_maps("step", &step_inputs(), |input| &input.code);
+    expect_opcode_maps("address", &address_inputs(), |input| &input.code);
+    expect_opcode_maps("lists", &list_inputs(), |input| from_refused(&input.code));
 }

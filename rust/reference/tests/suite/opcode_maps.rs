@@ -1,4 +1,4 @@
-//! Request 7: bits 2:0 of an EVEX prefix's P are the map, and bit 3 alone is fixed there.
+//! Request 7: bits 2:0 of an EVEX prefix's P are the opcode map, and bit 3 alone is fixed there.
 
 use crate::support::{refusal, varied_file, ALL, OPEN, SETS};
 use reference::{address, build, decode, listing, run, step};
@@ -135,7 +135,7 @@ fn equations_by_listing() {
 }
 
 /// The instruction under every value of P's four low bits and of Q bit 2, each with what it answers.
-fn under_every_map(accepted: &[u8]) -> Vec<(Vec<u8>, Decoded)> {
+fn under_every_opcode_map(accepted: &[u8]) -> Vec<(Vec<u8>, Decoded)> {
     let own = accepted[1] & 0x07;
     let mut codes = Vec::new();
     for bits in 0..32_u8 {
@@ -165,10 +165,10 @@ fn forms() -> Vec<Vec<u8>> {
 }
 
 #[test]
-fn every_map_and_every_value_of_the_fixed_bits() {
+fn every_opcode_map_and_every_value_of_the_fixed_bits() {
     let mut counts = [0; 5];
     for accepted in forms() {
-        for (code, expected) in under_every_map(&accepted) {
+        for (code, expected) in under_every_opcode_map(&accepted) {
             assert_eq!(decode(&code, ALL), expected, "{code:02X?}");
             counts[expected.status as usize] += 1;
         }
@@ -179,9 +179,9 @@ fn every_map_and_every_value_of_the_fixed_bits() {
 
 /// Nothing is looked at before the opcode is there, and nothing but a row's own bytes behind it.
 #[test]
-fn short_bytes_under_every_map() {
+fn short_bytes_under_every_opcode_map() {
     for accepted in forms() {
-        for (code, whole) in under_every_map(&accepted) {
+        for (code, whole) in under_every_opcode_map(&accepted) {
             check_cuts(&code, whole);
         }
     }
@@ -199,9 +199,9 @@ fn check_cuts(code: &[u8], whole: Decoded) {
     }
 }
 
-/// R, X, B and R' stand above the map and the fixed bit, and change neither.
+/// R, X, B and R' stand above the opcode map and the fixed bit, and change neither.
 #[test]
-fn registers_above_the_map() {
+fn registers_above_the_opcode_map() {
     for p in 0..=u8::MAX {
         let code = [0x62, p, 0x6D, 0x48, 0x8D, 0xCB];
         let found = decode(&code, ALL);

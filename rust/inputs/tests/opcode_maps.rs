@@ -1,26 +1,27 @@
-//! The maps that no row has, the fixed bits, and what the generator expects of both (request 7).
+//! The opcode maps that no row has, the fixed bits, and what the generator expects of both (request
+//! 7).
 
 use inputs::encoding::{Prefix, ROWS};
 use inputs::faults::Fault;
 use inputs::limits::features::ALL;
-use inputs::maps::{evex_shapes, Outcome, OTHER_MAPS};
+use inputs::opcode_maps::{evex_shapes, Outcome, OTHER_OPCODE_MAPS};
 use inputs::random::Random;
 use inputs::reserved::{Field, Wrong};
 use std::collections::BTreeMap;
 
 #[test]
-fn every_map_is_a_rows_or_another() {
+fn every_opcode_map_is_a_rows_or_another() {
     let evex = ROWS.iter().filter(|row| row.evex_w.is_some());
-    let mut maps: Vec<_> = evex.map(|row| row.map).chain(OTHER_MAPS).collect();
+    let mut maps: Vec<_> = evex.map(|row| row.map).chain(OTHER_OPCODE_MAPS).collect();
     maps.sort_unstable();
     maps.dedup();
     assert_eq!(maps, [0, 1, 2, 3, 4, 5, 6, 7]);
-    assert!(ROWS.iter().all(|row| !OTHER_MAPS.contains(&row.map)));
+    assert!(ROWS.iter().all(|row| !OTHER_OPCODE_MAPS.contains(&row.map)));
 }
 
 /// `Shape::outcome` counts on it.
 #[test]
-fn no_opcode_is_in_two_maps() {
+fn no_opcode_is_in_two_opcode_maps() {
     for row in &ROWS {
         let same = ROWS.iter().filter(|other| other.opcode == row.opcode);
         assert!(same.clone().all(|other| other.map == row.map), "{row:?}");
@@ -54,7 +55,7 @@ fn outcomes_of_written_out_code() {
     }
 }
 
-/// The map, bit 3 of the second byte, and bit 2 of the third.
+/// The opcode map, bit 3 of the second byte, and bit 2 of the third.
 type Bits = (u8, u8, u8);
 
 /// How many of 5,000 instructions with this fault had which bits. All have the reason.
@@ -70,27 +71,27 @@ fn made(fault: Fault, reason: u32) -> BTreeMap<Bits, u32> {
         let bits = (p & 7, p >> 3 & 1, q >> 2 & 1);
         *found.entry(bits).or_insert(0) += 1;
     }
-    println!("{fault:?}, by map and fixed bits: {found:?}");
+    println!("{fault:?}, by opcode map and fixed bits: {found:?}");
     found
 }
 
-/// Each map that no row has, with right fixed bits.
+/// Each opcode map that no row has, with right fixed bits.
 #[test]
-fn other_maps_are_of_their_kind() {
-    let found = made(Fault::OtherMap, 0);
-    let expected = OTHER_MAPS.map(|map| (map, 0, 1));
+fn other_opcode_maps_are_of_their_kind() {
+    let found = made(Fault::OtherOpcodeMap, 0);
+    let expected = OTHER_OPCODE_MAPS.map(|map| (map, 0, 1));
     assert!(found.into_keys().eq(expected));
 }
 
-/// Each map, with each of the three ways in which fixed bits are wrong.
+/// Each opcode map, with each of the three ways in which fixed bits are wrong.
 #[test]
-fn fixed_bits_are_wrong_under_every_map() {
+fn fixed_bits_are_wrong_under_every_opcode_map() {
     let found = made(Fault::FixedBits, 1);
     let expected = (0..8).flat_map(|map| [(map, 0, 0), (map, 1, 0), (map, 1, 1)]);
     assert!(found.into_keys().eq(expected));
 }
 
-/// Bit 3 of the second byte, bit 2 of the third, or both, and the map is the row's.
+/// Bit 3 of the second byte, bit 2 of the third, or both, and the opcode map is the row's.
 #[test]
 fn wrong_fixed_bits_are_of_their_kind() {
     let mut random = Random::new(2);
