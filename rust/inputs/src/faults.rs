@@ -69,8 +69,8 @@ pub const FEATURE_SETS: [u32; 9] = [
 ];
 
 impl Fault {
-    /// An instruction with this fault and no other, or nothing if these features, which have to pass,
-    /// have none.
+    /// An instruction with this fault and none that is looked at before it, or nothing if these
+    /// features, which have to pass, have none.
     pub fn encode(self, features: u32, random: &mut Random) -> Option<Bad> {
         let mix = match self {
             Fault::NoRow => return Some(without_reason(no_row(random))),
