@@ -3,7 +3,7 @@
 mod tools;
 
 use audit::{audit, engine, Addressed, Answer, Capabilities, Engine, Failure, Finding, Form};
-use audit::{Options, Report, Skipped, Words};
+use audit::{Options, Outcome, Processor, Report, Skipped, State, Words};
 use reference::limits::feature;
 use reference::{decode, Decoded, Field};
 use tools::{caught, has_all_registers, options, passed, ENOUGH};
@@ -252,6 +252,26 @@ fn fixed_bits_are_left_out_with_apx() {
     check_refused(&report);
     assert_eq!((report.steps(), report.refused_cases()), (3_000, 1_000));
     assert!(report.to_string().contains("EVEX fixed bits 0, "));
+}
+
+/// Whoever makes them wrong: of P, of Q, and of both.
+#[test]
+fn wrong_fixed_bits_are_not_executed_with_apx() {
+    if !has_all_registers() {
+        return;
+    }
+    for found in [Capabilities::detect(), Capabilities::detect_as(&APX)] {
+        let capabilities = found.expect("possible features");
+        let mut processor = Processor::new(capabilities).expect("pages");
+        for (p, q) in [(0xF9, 0x7D), (0xF1, 0x79), (0xF9, 0x79)] {
+            let code = [0x62, p, q, 0x48, 0x70, 0xCA, 0x1B];
+            let outcome = processor.run(&code, &State::ZERO, &[]);
+            match capabilities.apx() {
+                true => assert!(matches!(outcome, Outcome::NotRun(_)), "{code:02X?}"),
+                false => assert_eq!(outcome, Outcome::Undefined, "{code:02X?}"),
+            }
+        }
+    }
 }
 
 /// The maps always, and the fixed bits with APX.

@@ -38,6 +38,7 @@ use std::io;
 /// Executes single instructions. It stays on the thread that made it.
 pub struct Processor {
     register_set: RegisterSet,
+    apx: bool,
     pages: Pages,
     /// Shared with assembly and the signal handler during a run, and with nobody else.
     context: Box<UnsafeCell<Context>>,
@@ -105,6 +106,7 @@ impl Processor {
         signals::install();
         Ok(Processor {
             register_set,
+            apx: capabilities.apx(),
             pages: Pages::new()?,
             context: Box::new(UnsafeCell::new(Context::new())),
         })
@@ -134,7 +136,8 @@ impl Processor {
         length: usize,
         setting: &Setting,
     ) -> Result<Prepared, &'static str> {
-        let permit = permit(code).ok_or("neither accepted nor with one wrong reserved field")?;
+        let permit = permit(code, self.apx);
+        let permit = permit.ok_or("neither accepted nor with one wrong reserved field")?;
         let operand = Operand::of(code, permit.memory);
         let is_high = setting.is_high && !operand.as_ref().is_some_and(is_low);
         let arena = self.pages.arena(is_high);

@@ -3,7 +3,7 @@
 //! Either the reference accepts them as one whole instruction, or it refuses them with status 4 and
 //! accepts them once the one wrong field is put right. No other bytes reach the processor. An EVEX
 //! map from 4 to 7 is no wrong field, and stays what it is: newer processors may have instructions
-//! there.
+//! there. With APX on, wrong fixed bits have a meaning, and are refused.
 
 use reference::limits::feature;
 use reference::{decode, reserved_field, Field};
@@ -15,12 +15,13 @@ pub struct Permit {
     pub memory: usize,
 }
 
-/// Leave to execute `code`, or none.
-pub fn permit(code: &[u8]) -> Option<Permit> {
-    if let Some(field) = reserved_field(code, feature::ALL) {
-        return accepted(&repaired(code, field));
+/// Leave to execute `code`, or none. `apx` is whether APX is on.
+pub fn permit(code: &[u8], apx: bool) -> Option<Permit> {
+    match reserved_field(code, feature::ALL) {
+        Some(Field::FixedBits) if apx => None,
+        Some(field) => accepted(&repaired(code, field)),
+        None => accepted(code),
     }
-    accepted(code)
 }
 
 /// The same for instructions that the reference accepts, and for no others.
@@ -59,7 +60,14 @@ fn repaired(code: &[u8], field: Field) -> Vec<u8> {
 
 #[cfg(test)]
 mod tests {
-    use super::{permit, Permit};
+    use super::Permit;
+
+    /// Where it does not matter whether APX is on.
+    fn permit(code: &[u8]) -> Option<Permit> {
+        let found = super::permit(code, false);
+        assert_eq!(super::permit(code, true), found, "{code:02X?}");
+        found
+    }
 
     #[test]
     fn accepted_instructions_are_permitted() {
@@ -76,9 +84,7 @@ mod tests {
 
     #[test]
     fn one_wrong_field_is_permitted() {
-        let damaged: [&[u8]; 10] = [
-            &[0x62, 0xF9, 0x7D, 0x48, 0x70, 0xCA, 0x1B], // fixed bit of P
-            &[0x62, 0xF1, 0x79, 0x48, 0x70, 0xCA, 0x1B], // fixed bit of Q
+        let damaged: [&[u8]; 8] = [
             &[0xC4, 0xE3, 0xFD, 0x05, 0xCA, 0x05],       // W
             &[0x62, 0xF1, 0x7D, 0x68, 0x70, 0xCA, 0x1B], // width 3
             &[0xC4, 0xE3, 0x69, 0x06, 0xCB, 0x31],       // L
@@ -90,6 +96,18 @@ mod tests {
         ];
         for code in damaged {
             assert!(permit(code).is_some(), "{code:02X?}");
+        }
+    }
+
+    /// Of P, of Q, and of both.
+    #[test]
+    fn wrong_fixed_bits_are_permitted_without_apx() {
+        for (p, q) in [(0xF9, 0x7D), (0xF1, 0x79), (0xF9, 0x79)] {
+            let code = [0x62, p, q, 0x48, 0x70, 0xCA, 0x1B];
+            let expected = [(false, Some(Permit { memory: 0 })), (true, None)];
+            for (apx, permitted) in expected {
+                assert_eq!(super::permit(&code, apx), permitted, "{code:02X?}, {apx}");
+            }
         }
     }
 
@@ -115,7 +133,7 @@ mod tests {
 
     /// How many encodings of registers 0 to 2 with this EVEX map are permitted, of all opcodes with
     /// each pp, W and value of the fixed bits, with and without an immediate.
-    fn permitted_with_map(map: u8) -> usize {
+    fn permitted_with_map(map: u8, apx: bool) -> usize {
         let codes = (0..1 << 13).flat_map(|number: u16| {
             let [opcode, rest] = number.to_le_bytes();
             let p = 0xF0 | (rest & 1) << 3 | map;
@@ -123,14 +141,18 @@ mod tests {
             let code = [0x62, p, q, 0x48, opcode, 0xCA];
             [code.to_vec(), [&code[..], &[0x1B]].concat()]
         });
-        codes.filter(|code| permit(code).is_some()).count()
+        let is_permitted = |code: &Vec<u8>| super::permit(code, apx).is_some();
+        codes.filter(is_permitted).count()
     }
 
     /// The EVEX rows, once for each W that they have, are 5, 5 and 2 in the maps 1 to 3. All four
-    /// values of the fixed bits are permitted with them, and no map passes for another.
+    /// values of the fixed bits are permitted with them, with APX on the right one alone, and no map
+    /// passes for another.
     #[test]
     fn no_other_evex_map_is_permitted() {
-        let counts = [0, 1, 2, 3, 4, 5, 6, 7].map(permitted_with_map);
-        assert_eq!(counts, [0, 4 * 5, 4 * 5, 4 * 2, 0, 0, 0, 0]);
+        for (apx, values) in [(false, 4), (true, 1)] {
+            let counts = [0, 1, 2, 3, 4, 5, 6, 7].map(|map| permitted_with_map(map, apx));
+            assert_eq!(counts, [0, 5, 5, 2, 0, 0, 0, 0].map(|rows| values * rows));
+        }
     }
 }
