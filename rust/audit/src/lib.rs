@@ -8,9 +8,9 @@
 //! raise #UD on the processor, but for b with a register as third operand, which some processors
 //! ignore.
 //!
-//! Encodings with an EVEX map from 4 to 7 are never made nor executed: an engine answers 3 for them,
-//! and newer processors may have instructions there. With APX on, the fixed bits have a meaning and
-//! are left as they are. The report says both.
+//! Encodings with an EVEX map from 4 to 7 are never made nor executed: none of these instructions is
+//! there, and newer processors may have others. With APX on, the fixed bits have a meaning, and wrong
+//! ones are neither made nor executed. The report says both.
 //!
 //! The audit has its own instruction table and its own encoder. It shares no code with the engines;
 //! the independent reference only decides whether bytes may be executed at all.

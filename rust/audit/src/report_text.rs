@@ -47,8 +47,8 @@ fn write_machine(f: &mut Formatter<'_>, report: &Report, set: RegisterSet) -> Re
 fn write_left_out(f: &mut Formatter<'_>, apx: bool) -> Result {
     writeln!(
         f,
-        "EVEX maps 4 to 7 are not compared: the library answers 3, and newer processors may have\n  \
-         instructions there"
+        "EVEX maps 4 to 7 are not compared: none of these instructions is there, and newer processors \
+         may have\n  others"
     )?;
     if apx {
         writeln!(

@@ -277,8 +277,9 @@ fn wrong_fixed_bits_are_not_executed_with_apx() {
 /// The maps always, and the fixed bits with APX.
 #[test]
 fn report_says_what_is_left_out() {
-    let maps = "\nEVEX maps 4 to 7 are not compared: the library answers 3, and newer processors \
-                may have\n  instructions there\n";
+    let maps =
+        "\nEVEX maps 4 to 7 are not compared: none of these instructions is there, and newer \
+         processors may have\n  others\n";
     let fixed_bits =
         "\nEVEX fixed bits are not compared: APX is on, which has a meaning for them\n";
     let all = Capabilities::detect().expect("possible features");

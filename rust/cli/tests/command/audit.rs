@@ -25,7 +25,8 @@ fn report_states_sizes_with_their_units() {
         "engine: tarhuspo, seed 5\n",
         "\nprocessor: ",
         "\nforms skipped: ",
-        "\nEVEX maps 4 to 7 are not compared: the library answers 3, and newer processors may have",
+        "\nEVEX maps 4 to 7 are not compared: none of these instructions is there, and newer processors \
+         may have\n  others\n",
         "\nsteps compared: 1500 carried out, ",
         " refused with #UD\n",
         "\ncompared after each: 2048 register bytes (32 registers of 64 bytes), ",
