@@ -1,7 +1,7 @@
 -- The worked cases at the end of docs/RULES.md: what decoding gives and, where the case says so, where the destination's bytes come from. The starred
 -- ones, all with features 31, then further ones: those that are not starred, cases in which two rules meet, and single rules that no starred case
 -- looks at. Then those of request 1. The starred ones hold under all features too.
-use Prim.Native.Nat.{ℕ, _+_, _*_}
+use Prim.Native.Nat.{ℕ, _+_, _-_, _*_, _/_, _%_}
 use mathlib.Core.Path.{_≡_, refl}
 use mathlib.Core.Bool.{Bool, true, false}
 use mathlib.Core.List.{List, [], _∷_, _++_, map}
@@ -347,6 +347,28 @@ mapCases =
     ∷ case (0x62 ∷ 0xF5 ∷ 0x7D ∷ 0x48 ∷ 0x70 ∷ 0xCA ∷ 0x1B ∷ []) 64 1 (Refused Argument)
     ∷ []
 
+-- rules 2.8 to 2.10: every register as destination d, first source f and third operand t, each in its own order: VPERMB with 62, VPERMILPD with C4 and
+-- VUNPCKLPS with C5, whose third operand is below 8. The bytes are put together from rule 2.3, with the inverted bits turned over
+abbrev pub modrmOf : ℕ → ℕ → ℕ
+modrmOf d t = 0xC0 + 8 * (d % 8) + t % 8
+
+abbrev pub under62 : ℕ → ℕ → ℕ → Case
+under62 d f t =
+    case (0x62 ∷ (128 * (1 - d / 8 % 2) + 64 * (1 - t / 16) + 32 * (1 - t / 8 % 2) + 16 * (1 - d / 16) + 2) ∷ (8 * (15 - f % 16) + 5) ∷ (0x40 + 8 * (1 - f / 16)) ∷ 0x8D ∷ modrmOf d t ∷ []) 63 0
+    (ofThree vpermb Evex Bits512 d f t Immediate.Absent 6)
+
+abbrev pub underC4 : ℕ → ℕ → ℕ → Case
+underC4 d f t =
+    case (0xC4 ∷ (128 * (1 - d / 8) + 64 + 32 * (1 - t / 8) + 2) ∷ (8 * (15 - f) + 1) ∷ 0x0D ∷ modrmOf d t ∷ []) 63 0 (ofThree vpermilpdRegister Vex Bits128 d f t Immediate.Absent 5)
+
+abbrev pub underC5 : ℕ → ℕ → ℕ → Case
+underC5 d f t = case (0xC5 ∷ (128 * (1 - d / 8) + 8 * (15 - f)) ∷ 0x14 ∷ modrmOf d t ∷ []) 63 0 (ofThree vunpcklps Vex Bits128 d f t Immediate.Absent 4)
+
+unfoldable pub registerCases : List Case
+registerCases =
+    tabulate 32 (λ n. under62 n ((n + 11) % 32) ((n + 22) % 32))
+    ++ (tabulate 16 (λ n. underC4 n ((n + 5) % 16) ((n + 10) % 16)) ++ tabulate 16 (λ n. underC5 n ((n + 5) % 16) ((n + 3) % 8)))
+
 -- every case decodes as it says, and its answer has its number
 abbrev pub Decodes : List Case → Type 0
 Decodes cases =
@@ -385,3 +407,7 @@ feature-sets-decode = (refl, refl)
 pub map-decode : Decodes mapCases
 unfolding mapCases decodeOf knownOf onHead onRow onTotal finishOf headOf prefixSize prefixOf fixedBits rows findIn matchesRow matchesW sibSize displacementSize checkOf wrongW wrongWidth wrongVvvv wrongBroadcast wrongZeroing enoughOf neededOf hasFeature instructionOf encodingOf firstOf thirdOf immediateOf widthOf elementOf digitsOf halfOf moveFrom controlOf
 map-decode = (refl, refl)
+
+pub register-decode : Decodes registerCases
+unfolding registerCases tabulate decodeOf knownOf onHead onRow onTotal finishOf headOf prefixSize prefixOf fixedBits rows findIn matchesRow matchesW sibSize displacementSize checkOf wrongW wrongWidth wrongVvvv wrongBroadcast wrongZeroing enoughOf neededOf hasFeature instructionOf encodingOf firstOf thirdOf immediateOf widthOf elementOf digitsOf halfOf moveFrom controlOf
+register-decode = (refl, refl)
