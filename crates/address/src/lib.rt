@@ -1,4 +1,6 @@
 // The address of an instruction's memory operand.
+#![tactic(auto)]
+
 ghost use Rattle.std.specs.Prelude.{◌≡◌};
 ghost use Rattle.address.specs.Displacement.{wrapped};
 ghost use Rattle.address.specs.Address.{base_value, index_value, sum_of, on_decoded, address_of};
@@ -12,7 +14,7 @@ use isa::features::Features;
 use isa::refusal::Refusal;
 use operand::{Base, Gpr, Index, Operand};
 
-#[derive(Drop)]
+#[derive(Clone, Copy)]
 pub enum Addressed {
     At(u64),
     // A register form, which has no memory operand.

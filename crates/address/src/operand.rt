@@ -13,7 +13,7 @@ use seq::byte_at;
 
 // A general register's number, in the order of the encoding: rax, rcx, rdx, rbx, rsp, rbp, rsi, rdi, r8 to r15. No other
 // crate can make one out of range.
-#[derive(Drop)]
+#[derive(Clone, Copy)]
 pub struct Gpr(u8);
 
 impl Gpr {
@@ -45,7 +45,7 @@ impl Gpr {
     }
 }
 
-#[derive(Drop)]
+#[derive(Clone, Copy)]
 pub enum Base {
     Register(Gpr),
     // The next instruction's address.
@@ -53,7 +53,7 @@ pub enum Base {
     Absent,
 }
 
-#[derive(Drop)]
+#[derive(Clone, Copy)]
 pub enum Scale {
     One,
     Two,
@@ -91,13 +91,13 @@ impl Scale {
     }
 }
 
-#[derive(Drop)]
+#[derive(Clone, Copy)]
 pub enum Index {
     Register(Gpr, Scale),
     Absent,
 }
 
-#[derive(Drop)]
+#[derive(Clone, Copy)]
 pub struct Operand {
     pub base: Base,
     pub index: Index,

@@ -1,4 +1,6 @@
 // Byte maps: for each byte of a register file, the byte of a starting file that it comes from, or zero.
+#![tactic(auto)]
+
 ghost use Rattle.std.specs.Prelude.{◌≡◌, [], ◌+◌, ◌*◌, ◌%◌, ◌≤◌, eqb, length, get_or};
 ghost use Rattle.seq.specs.Tabulate.{tabulate};
 ghost use Rattle.seq.specs.Choice.{both};
@@ -129,7 +131,7 @@ pub fn compose(first: &[u16], second: &[u16], out: &mut [u16]) -> Answer
     Answer::Refused(Refusal::Argument)
 }
 
-#[derive(Drop)]
+#[derive(Clone, Copy)]
 pub struct Built {
     // The list's length, or where the refused step starts.
     pub place: usize,

@@ -1,4 +1,6 @@
 // The worked cases of docs/RULES.md, each decoded and carried out, with the origin of every byte of the destination.
+#![tactic(auto)]
+
 ghost use Rattle.std.specs.Prelude.{◌<◌, ◌≤◌, get_or};
 
 use decode::instruction::Decoded;
@@ -102,7 +104,7 @@ const DIGEST_FACTOR: u64 = 16777619;
 const DIGEST_LIMIT: u64 = 4294967296;
 
 // A number that names an origin takes two bytes, so each case runs on two files.
-#[derive(Drop)]
+#[derive(Clone, Copy)]
 enum Half {
     Low,
     High,
@@ -146,7 +148,7 @@ fn memory(half: Half, control: &[u8]) -> [u8; 255] {
 }
 
 // What is shown of a decoding, and what its step wants.
-#[derive(Drop)]
+#[derive(Clone, Copy)]
 struct Summary {
     answer: u32,
     reason: u32,

@@ -1,6 +1,5 @@
 -- The rules that the stages' proofs hand to `search`, and the laws of decoding, which other crates cite.
 mod Compose
-mod Layouts
 pub mod Laws
 pub mod Prefixes
 pub mod Reasons

@@ -7,5 +7,3 @@ pub mod Fields
 pub mod Instruction
 pub mod Decode
 pub mod Cases
-pub mod Fits
-pub mod Inner

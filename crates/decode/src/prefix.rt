@@ -1,14 +1,13 @@
 // The prefix bytes.
-ghost use Rattle.std.specs.Prelude.{◌≡◌, ◌≤◌};
-ghost use Rattle.decode.specs.Prefix.{prefix_size, prefix_of, fixed_bits, key_of};
-ghost use Rattle.decode.specs.Inner.{is_vex, as_p, as_q, as_s, high_r, map_of, encoding_by, size_by, head_in};
+ghost use Rattle.std.specs.Prelude.{◌≡◌};
+ghost use Rattle.decode.specs.Prefix.{prefix_size, vex2_of, vex3_of, evex_of, prefix_of, fixed_bits, key_of, head_of};
 
 use isa::operands::Encoding;
 use isa::refusal::{Field, Refusal};
 use isa::table::Key;
 
 // The fields of a prefix of any kind, none inverted.
-#[derive(Drop)]
+#[derive(Clone, Copy)]
 pub struct Prefix {
     pub encoding: u8,
     // Bytes of the prefix.
@@ -43,19 +42,15 @@ impl Prefix {
     }
 }
 
-// The two bytes that begin a VEX prefix, C4 and C5, differ in the lowest bit.
-fn is_vex(b: u8) -> bool
-    ensures { result ≡ is_vex b }
-{
-    b / 2 == 0x62
-}
-
 // The bytes of a prefix that begins with b, and 0 where none does.
 fn prefix_size(b: u8) -> u8
     ensures { result ≡ prefix_size b }
 {
-    if is_vex(b) {
-        return 3 - b % 2;
+    if b == 0xC5 {
+        return 2;
+    }
+    if b == 0xC4 {
+        return 3;
     }
     if b == 0x62 {
         return 4;
@@ -63,75 +58,57 @@ fn prefix_size(b: u8) -> u8
     0
 }
 
-// The three bytes of any prefix as an EVEX prefix has them, so that the fields are taken out with no branch. C5 has one byte, which stands
-// for R, inverted X and B and map 1, and for the other fields of C4's second byte.
-fn as_p(b0: u8, b1: u8) -> u8
-    ensures { result ≡ as_p b0 b1 }
+fn vex2(p: u8) -> Prefix
+    ensures { result ≡ vex2_of p }
 {
-    if b0 == 0xC5 {
-        b1 / 128 * 128 + 0x61
-    } else {
-        b1
-    }
-}
-
-fn as_q(b0: u8, b1: u8, b2: u8) -> u8
-    ensures { result ≡ as_q b0 b1 b2 }
-{
-    if b0 == 0xC5 { b1 % 128 } else { b2 }
-}
-
-// Under VEX: the width of Q's L, and an inverted V'.
-fn as_s(b0: u8, q: u8, b3: u8) -> u8
-    ensures { result ≡ as_s b0 q b3 }
-{
-    if is_vex(b0) { q / 4 % 2 * 32 + 8 } else { b3 }
-}
-
-// R' as the higher bit of R'.R; VEX lacks it.
-fn high_r(b0: u8, p: u8) -> u8
-    ensures { (result ≡ high_r b0 p) × (result ≤ 2) }
-{
-    if is_vex(b0) { 0 } else { 2 * (1 - p / 16 % 2) }
-}
-
-fn map_of(b0: u8, p: u8) -> u8
-    ensures { result ≡ map_of b0 p }
-{
-    if is_vex(b0) { p % 32 } else { p % 8 }
-}
-
-fn encoding_of(b0: u8) -> u8
-    ensures { result ≡ encoding_by b0 }
-{
-    if is_vex(b0) {
-        Encoding::VEX
-    } else {
-        Encoding::EVEX
-    }
-}
-
-// The bytes of a prefix, where a byte begins one.
-fn size_of(b0: u8) -> u8
-    ensures { result ≡ size_by b0 }
-{
-    if is_vex(b0) { 3 - b0 % 2 } else { 4 }
-}
-
-pub fn fields(b0: u8, b1: u8, b2: u8, b3: u8) -> Prefix
-    ensures { result ≡ prefix_of b0 b1 b2 b3 }
-{
-    let p = as_p(b0, b1);
-    let q = as_q(b0, b1, b2);
-    let s = as_s(b0, q, b3);
     Prefix {
-        encoding: encoding_of(b0),
-        size: size_of(b0),
-        r: 1 - p / 128 % 2 + high_r(b0, p),
+        encoding: Encoding::VEX,
+        size: 2,
+        r: 1 - p / 128 % 2,
+        x: 0,
+        b: 0,
+        v: 15 - p / 8 % 16,
+        map: 1,
+        pp: p % 4,
+        w: 0,
+        width: p / 4 % 2,
+        z: 0,
+        broadcast: 0,
+        mask: 0,
+    }
+}
+
+fn vex3(p: u8, q: u8) -> Prefix
+    ensures { result ≡ vex3_of p q }
+{
+    Prefix {
+        encoding: Encoding::VEX,
+        size: 3,
+        r: 1 - p / 128 % 2,
+        x: 1 - p / 64 % 2,
+        b: 1 - p / 32 % 2,
+        v: 15 - q / 8 % 16,
+        map: p % 32,
+        pp: q % 4,
+        w: q / 128 % 2,
+        width: q / 4 % 2,
+        z: 0,
+        broadcast: 0,
+        mask: 0,
+    }
+}
+
+fn evex(p: u8, q: u8, s: u8) -> Prefix
+    ensures { result ≡ evex_of p q s }
+{
+    Prefix {
+        encoding: Encoding::EVEX,
+        size: 4,
+        r: 1 - p / 128 % 2 + 2 * (1 - p / 16 % 2),
         x: 1 - p / 64 % 2,
         b: 1 - p / 32 % 2,
         v: 15 - q / 8 % 16 + 16 * (1 - s / 8 % 2),
-        map: map_of(b0, p),
+        map: p % 8,
         pp: q % 4,
         w: q / 128 % 2,
         width: s / 32 % 4,
@@ -139,6 +116,18 @@ pub fn fields(b0: u8, b1: u8, b2: u8, b3: u8) -> Prefix
         broadcast: s / 16 % 2,
         mask: s % 8,
     }
+}
+
+pub fn fields(b0: u8, b1: u8, b2: u8, b3: u8) -> Prefix
+    ensures { result ≡ prefix_of b0 b1 b2 b3 }
+{
+    if b0 == 0xC5 {
+        return vex2(b1);
+    }
+    if b0 == 0xC4 {
+        return vex3(b1, b2);
+    }
+    evex(b1, b2, b3)
 }
 
 // Whether the bits of an EVEX prefix that are fixed are as they must be.
@@ -156,31 +145,26 @@ fn fixed_bits(b0: u8, p: u8, q: u8) -> bool
     one == 1
 }
 
-#[derive(Drop)]
+#[derive(Clone, Copy)]
 pub enum Head {
     Got(Prefix),
     Refused(Refusal),
 }
 
-// What the first bytes say. Where a prefix and its opcode are there, so are three bytes; the last of the prefix counts under EVEX alone.
-pub fn read_head(code: &[u8]) -> Head
-    ensures { result ≡ head_in code.now }
+// What the first bytes of n bytes say.
+pub fn read_head(n: usize, b0: u8, b1: u8, b2: u8, b3: u8) -> Head
+    ensures { result ≡ head_of n b0 b1 b2 b3 }
 {
-    let n = code.len();
     if n == 0 {
         return Head::Refused(Refusal::Truncated);
     }
-    let b0 = code[0];
-    let size = prefix_size(b0) as usize;
+    let size = prefix_size(b0);
     if size == 0 {
         return Head::Refused(Refusal::Unlisted);
     }
-    if n <= size {
+    if n <= size as usize {
         return Head::Refused(Refusal::Truncated);
     }
-    let b1 = code[1];
-    let b2 = code[2];
-    let b3 = code[size - 1];
     if fixed_bits(b0, b1, b2) {
         Head::Got(fields(b0, b1, b2, b3))
     } else {

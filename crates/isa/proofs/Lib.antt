@@ -3,7 +3,7 @@ pub mod Bits
 pub mod Sizes
 pub mod Reasons
 pub mod Passing
+mod Grid
 mod Search
-mod Slots
 pub mod Rule
 pub mod Columns

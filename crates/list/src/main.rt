@@ -1,4 +1,6 @@
 // Rule 8.8: prints the listing of the list on standard input, piece by piece, and nothing for one over 16,384 bytes.
+#![tactic(auto)]
+
 use isa::kinds::Code;
 use libc::{STDIN_FILENO, STDOUT_FILENO};
 

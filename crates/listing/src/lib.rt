@@ -1,4 +1,6 @@
 // A list of instructions as text, in pieces.
+#![tactic(auto)]
+
 ghost use Rattle.std.specs.Prelude.{◌≡◌, ◌∷◌, [], ◌+◌, ◌<◌, ◌≤◌, length, take};
 ghost use Rattle.isa.specs.Kinds.{code_limit, text_least};
 ghost use Rattle.listing.specs.Text.{decimal};
@@ -13,7 +15,7 @@ use isa::refusal::Refusal;
 use run::Answer;
 
 // What a line says of a step.
-#[derive(Drop)]
+#[derive(Clone, Copy)]
 pub struct Line {
     pub place: usize,
     pub length: usize,
@@ -26,7 +28,7 @@ pub struct Line {
 }
 
 // A piece of a listing.
-#[derive(Drop)]
+#[derive(Clone, Copy)]
 pub struct Listed {
     // Bytes of the text.
     pub written: usize,
@@ -38,7 +40,7 @@ pub struct Listed {
 }
 
 // Whether bytes are put into a text: all of them, up to the place behind them, or none.
-#[derive(Drop)]
+#[derive(Clone, Copy)]
 pub enum Fit {
     Behind(usize),
     NoRoom,

@@ -1,4 +1,6 @@
 // For each element of the destination, where it comes from.
+#![tactic(auto)]
+
 ghost use Rattle.std.specs.Prelude.{◌≡◌, ◌+◌, ◌*◌, ◌/◌, ◌%◌, ◌^◌, ◌<◌, ◌≤◌, get_or};
 ghost use Rattle.isa.specs.Operands.{width_bytes, element_bytes, digit_bits};
 ghost use Rattle.moves.specs.Pick.{per_lane, group_start, digit, picks, in_lane, half_start, halves, lane_or_zero, in_lane_or_zero, pick_of};
@@ -10,7 +12,7 @@ use isa::kinds::{Mask, Reg};
 use isa::operands::{Digits, Element, Half, Move, Width};
 
 // An element of the first source, of the third operand or of the old destination, or zero.
-#[derive(Drop)]
+#[derive(Clone, Copy)]
 pub enum Origin {
     First(u16),
     Third(u16),

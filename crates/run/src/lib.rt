@@ -1,4 +1,6 @@
 // A list of instructions on a register file, under a budget of steps.
+#![tactic(auto)]
+
 ghost use Rattle.std.specs.Prelude.{◌≡◌, ◌≤◌, length};
 ghost use Rattle.seq.specs.Choice.{both};
 ghost use Rattle.isa.specs.Kinds.{file_size, mask_count, code_limit};
@@ -11,14 +13,14 @@ use isa::kinds::{Code, Mask, RegisterFile};
 use isa::refusal::Refusal;
 use step::Stepped;
 
-#[derive(Drop)]
+#[derive(Clone, Copy)]
 pub enum Answer {
     // The end of the list was reached, or the budget was spent.
     Done,
     Refused(Refusal),
 }
 
-#[derive(Drop)]
+#[derive(Clone, Copy)]
 pub struct Ran {
     // The steps that were carried out.
     pub steps: u64,

@@ -1,4 +1,6 @@
 // Reads that never leave a slice.
+#![tactic(auto)]
+
 ghost use Rattle.std.specs.Prelude.{◌≡◌, get_or};
 
 // The byte at i, and 0 past the end.

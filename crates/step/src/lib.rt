@@ -1,4 +1,6 @@
 // One instruction on a register file.
+#![tactic(auto)]
+
 ghost use Rattle.std.specs.Prelude.{◌≡◌, [], ◌+◌, ◌*◌, ◌/◌, ◌%◌, ◌<◌, length, get_or};
 ghost use Rattle.seq.specs.Tabulate.{tabulate};
 ghost use Rattle.isa.specs.Kinds.{registers, file_size};
@@ -14,7 +16,7 @@ use isa::operands::Control;
 use isa::refusal::Refusal;
 use moves::Origin;
 
-#[derive(Drop)]
+#[derive(Clone, Copy)]
 pub enum Stepped {
     // The bytes of the instruction that was carried out.
     Done(usize),

@@ -1,4 +1,6 @@
 // The C interface: include/tarhuspo.h says the same in C.
+#![tactic(auto)]
+
 ghost use Rattle.std.specs.Prelude.{◌≡◌, length};
 ghost use Rattle.decode.specs.Decode.{decode_of};
 ghost use Rattle.step.specs.Step.{step_of, file_after};
@@ -23,7 +25,7 @@ use step::Stepped;
 // tarhuspo_decoded. All fields but status and reason are 0 where status is not 0. The reason is the wrong field's number
 // where status is 4, and 0 otherwise, here and below.
 #[repr(C)]
-#[derive(Drop)]
+#[derive(Clone, Copy)]
 pub struct TarhuspoDecoded {
     pub status: u32,
     pub length: u32,
@@ -161,7 +163,7 @@ pub extern "C" fn tarhuspo_decode(code: &[u8], features: u32) -> TarhuspoDecoded
 
 // tarhuspo_stepped. The length is 0 where status is not 0.
 #[repr(C)]
-#[derive(Drop)]
+#[derive(Clone, Copy)]
 pub struct TarhuspoStepped {
     pub status: u32,
     pub length: u32,
@@ -212,7 +214,7 @@ fn reason_of(answer: Answer) -> u32
 
 // tarhuspo_ran
 #[repr(C)]
-#[derive(Drop)]
+#[derive(Clone, Copy)]
 pub struct TarhuspoRan {
     pub steps: u64,
     pub place: u64,
@@ -242,7 +244,7 @@ pub extern "C" fn tarhuspo_run(
 
 // tarhuspo_built
 #[repr(C)]
-#[derive(Drop)]
+#[derive(Clone, Copy)]
 pub struct TarhuspoBuilt {
     pub place: u64,
     pub status: u32,
@@ -283,7 +285,7 @@ pub extern "C" fn tarhuspo_bytemap_compose(first: &[u16], second: &[u16], out: &
 
 // tarhuspo_listed. All fields but status are 0 where status is not 0.
 #[repr(C)]
-#[derive(Drop)]
+#[derive(Clone, Copy)]
 pub struct TarhuspoListed {
     pub written: u64,
     pub next: u64,
@@ -307,7 +309,7 @@ pub extern "C" fn tarhuspo_listing(code: &[u8], place: usize, text: &mut [u8]) -
 
 // tarhuspo_addressed. Without an address, address is 0.
 #[repr(C)]
-#[derive(Drop)]
+#[derive(Clone, Copy)]
 pub struct TarhuspoAddressed {
     pub address: u64,
     pub status: u32,

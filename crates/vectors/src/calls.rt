@@ -19,7 +19,7 @@ const MOST: usize = ROOM - 2 * GUARD;
 
 const TEXT_MOST: usize = TEXT_ROOM - 2 * GUARD;
 
-#[derive(Drop)]
+#[derive(Clone, Copy)]
 pub enum Entry {
     Decode,
     Step,
@@ -32,7 +32,7 @@ pub enum Entry {
 }
 
 // What is written for an input: the status, further numbers and the digest.
-#[derive(Drop)]
+#[derive(Clone, Copy)]
 pub enum Line {
     // Nothing: the input is not there in full, or its record asks for more than there is room for.
     Malformed,

@@ -9,7 +9,7 @@ const FIRST_FACTOR: u64 = 2654435761;
 
 const SECOND_FACTOR: u64 = 1597334677;
 
-#[derive(Drop)]
+#[derive(Clone, Copy)]
 pub struct Digest {
     pub first: u64,
     pub second: u64,

@@ -1,5 +1,7 @@
 // Every entry point of the C interface on random inputs, valid and damaged. docs/VECTORS.md has the layout of the data
 // and of what is written.
+#![tactic(auto)]
+
 mod calls;
 mod digest;
 mod number;
@@ -73,7 +75,7 @@ fn print_line(line: Line) -> bool {
 }
 
 // Where the code of an input stands.
-#[derive(Drop)]
+#[derive(Clone, Copy)]
 enum Code {
     // Behind its record.
     Beside,
