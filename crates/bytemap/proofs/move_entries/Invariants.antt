@@ -1,0 +1,17 @@
+use Prim.Native.Nat.{ℕ, ◌-◌}
+use mathlib.Core.List.{List}
+use lib.ListN.{get_or}
+use Rattle.isa.specs.Kinds.{map_entries}
+use Rattle.bytemap.specs.ByteMap.{read_entry}
+use Rattle.seq.proofs.Storing.{Storing}
+use Rattle.bytemap.proofs.move_entries.Given as goal
+
+-- element p of the result
+abbrev pub new : List ℕ → List ℕ → ℕ → ℕ
+new first second p = read_entry first (get_or second p 0)
+
+abbrev pub invariant-loop-i : goal.invariant-loop-i
+invariant-loop-i l = Storing l.initial.out (new l.first l.second) map_entries l.out l.i
+
+abbrev pub decreases-loop-i : goal.decreases-loop-i
+decreases-loop-i l = map_entries - l.i
