@@ -4,7 +4,7 @@
 Each line of document 01's table of cases, and each case of requests 1, 3, 6 and 7, has its answer, length, memory and destination
 bytes written here by hand, from the papers' rules for the instruction: there is no decoder. From the repository's top,
 `python3 docs/cases.py > crates/cases/stdout` writes the file. `.ci/run` compares the file with what this prints, and
-`rt check cases` with what the program prints.
+in it `rt ci` with what the program prints.
 """
 
 REGISTERS, BYTES = 32, 64

@@ -1,6 +1,6 @@
 /*
  * Each function of the library once, with its status looked at. Build it at the top of the
- * repository, after `rt staticlib tarhuspo`:
+ * repository, after tools/staticlib.sh:
  *
  *     cc -std=c11 -I include examples/example.c target/staticlib/libtarhuspo.a -o example
  *

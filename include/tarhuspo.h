@@ -2,8 +2,8 @@
  * Tarhuspo: a proved decoder and emulator of AVX permute instructions (64-bit code, VEX and EVEX
  * encodings).
  *
- * Link with target/staticlib/libtarhuspo.a, which `rt staticlib tarhuspo` builds for x86-64. It
- * defines the functions of this header and no other global symbol.
+ * Link with target/staticlib/libtarhuspo.a, which tools/staticlib.sh proves and builds for x86-64.
+ * It defines the functions of this header and no other global symbol.
  * Symbols that it takes from outside: memcpy.
  *
  * For every caller:

@@ -1,9 +1,11 @@
-//! Proves the Rattle crate `tarhuspo`, builds its static library and links it.
+//! Proves the Rattle crate `tarhuspo_c`, builds its static library and links it.
 
-use std::io::ErrorKind;
 use std::path::{Path, PathBuf};
 use std::process::{exit, Command, Output};
-use std::{env, fs};
+use std::{env, fs, io};
+
+/// Writes the archive if every proof holds, and else fails.
+const SCRIPT: &str = "tools/staticlib.sh";
 
 fn main() {
     if let Err(message) = build() {
@@ -15,10 +17,10 @@ fn main() {
 fn build() -> Result<(), String> {
     let top = Path::new(&variable("CARGO_MANIFEST_DIR")?).join("../..");
     let top = fs::canonicalize(&top).map_err(|e| format!("no repository above rust/: {e}"))?;
-    for input in ["crates", "crates.txt"] {
-        println!("cargo::rerun-if-changed={}", top.join(input).display());
+    let sources = sources(&top).map_err(|e| format!("cannot read crates/: {e}"))?;
+    for input in sources {
+        println!("cargo::rerun-if-changed={}", input.display());
     }
-    println!("cargo::rerun-if-env-changed=RATTLE_HOME");
     if variable("CARGO_CFG_TARGET_ARCH")? != "x86_64" {
         return Err("the proved library is compiled for x86-64 only".to_string());
     }
@@ -36,22 +38,26 @@ fn variable(name: &str) -> Result<String, String> {
     env::var(name).map_err(|e| format!("cargo gave no {name}: {e}"))
 }
 
-/// Runs `rt staticlib tarhuspo`, which writes the archive only if every proof holds.
+/// What the library is made of. Not the crates' whole folders, whose `out/` changes with each run of `rt`.
+fn sources(top: &Path) -> io::Result<Vec<PathBuf>> {
+    let mut sources = vec![top.join("crates.txt"), top.join(SCRIPT)];
+    for folder in fs::read_dir(top.join("crates"))? {
+        let folder = folder?.path();
+        let parts = ["src", "specs", "proofs"].map(|part| folder.join(part));
+        sources.extend(parts.into_iter().filter(|part| part.exists()));
+    }
+    Ok(sources)
+}
+
 fn prove(top: &Path) -> Result<(), String> {
-    let ran = Command::new("rt")
-        .args(["staticlib", "tarhuspo"])
-        .current_dir(top)
-        .output();
-    let output = ran.map_err(|e| match e.kind() {
-        ErrorKind::NotFound => "`rt` of the Rattle kit is not on the PATH".to_string(),
-        _ => format!("cannot run `rt`: {e}"),
-    })?;
+    let ran = Command::new(top.join(SCRIPT)).output();
+    let output = ran.map_err(|e| format!("cannot run {SCRIPT}: {e}"))?;
     if output.status.success() {
         return Ok(());
     }
     pass_on(&output);
     Err(format!(
-        "`rt staticlib tarhuspo` failed ({}); what it said is below",
+        "{SCRIPT} failed ({}); what it said is below",
         output.status
     ))
 }
@@ -63,7 +69,7 @@ fn pass_on(output: &Output) {
     }
 }
 
-/// Copies the archive to OUT_DIR, because `rt ci` removes the folder that it was written to.
+/// Copies the archive to OUT_DIR, because the script's next run removes it where it was written.
 fn keep(top: &Path) -> Result<PathBuf, String> {
     let made = top.join("target/staticlib/libtarhuspo.a");
     let kept = Path::new(&variable("OUT_DIR")?).join("libtarhuspo.a");

@@ -1,4 +1,4 @@
-// The C interface: include/tarhuspo.h says the same in C.
+// The C interface, as Rattle calls it: include/tarhuspo.h says the same in C, and crates/tarhuspo_c exports these functions.
 #![tactic(auto)]
 
 ghost use Rattle.std.specs.Prelude.{◌≡◌, length};
@@ -147,8 +147,7 @@ fn refused(why: Refusal) -> TarhuspoDecoded
     }
 }
 
-#[unsafe(no_mangle)]
-pub extern "C" fn tarhuspo_decode(code: &[u8], features: u32) -> TarhuspoDecoded
+pub fn tarhuspo_decode(code: &[u8], features: u32) -> TarhuspoDecoded
     ensures { result ≡ decoded_of (decode_of code.now features) }
 {
     let decoded = decode::decode(code, Features(features));
@@ -170,8 +169,7 @@ pub struct TarhuspoStepped {
     pub reason: u32,
 }
 
-#[unsafe(no_mangle)]
-pub extern "C" fn tarhuspo_step(
+pub fn tarhuspo_step(
     code: &[u8],
     file: &mut [u8],
     masks: &[u64],
@@ -222,8 +220,7 @@ pub struct TarhuspoRan {
     pub reason: u32,
 }
 
-#[unsafe(no_mangle)]
-pub extern "C" fn tarhuspo_run(
+pub fn tarhuspo_run(
     code: &[u8],
     file: &mut [u8],
     masks: &[u64],
@@ -251,8 +248,7 @@ pub struct TarhuspoBuilt {
     pub reason: u32,
 }
 
-#[unsafe(no_mangle)]
-pub extern "C" fn tarhuspo_bytemap_build(
+pub fn tarhuspo_bytemap_build(
     code: &[u8],
     masks: &[u64],
     features: u32,
@@ -269,15 +265,13 @@ pub extern "C" fn tarhuspo_bytemap_build(
     }
 }
 
-#[unsafe(no_mangle)]
-pub extern "C" fn tarhuspo_bytemap_apply(map: &[u16], file: &mut [u8]) -> u32
+pub fn tarhuspo_bytemap_apply(map: &[u16], file: &mut [u8]) -> u32
     ensures { (result ≡ answer_status (apply_of map.now (length file.old))) × (file.new ≡ file_applied map.now file.old) }
 {
     status_of(bytemap::apply(map, file))
 }
 
-#[unsafe(no_mangle)]
-pub extern "C" fn tarhuspo_bytemap_compose(first: &[u16], second: &[u16], out: &mut [u16]) -> u32
+pub fn tarhuspo_bytemap_compose(first: &[u16], second: &[u16], out: &mut [u16]) -> u32
     ensures { (result ≡ answer_status (compose_of first.now second.now (length out.old))) × (out.new ≡ map_composed first.now second.now out.old) }
 {
     status_of(bytemap::compose(first, second, out))
@@ -293,8 +287,7 @@ pub struct TarhuspoListed {
     pub more: u32,
 }
 
-#[unsafe(no_mangle)]
-pub extern "C" fn tarhuspo_listing(code: &[u8], place: usize, text: &mut [u8]) -> TarhuspoListed
+pub fn tarhuspo_listing(code: &[u8], place: usize, text: &mut [u8]) -> TarhuspoListed
     ensures { (result ≡ listed_of (listing_of code.now place (length text.old))) × (text.new ≡ text_after code.now place text.old) }
 {
     let listed = listing::listing(code, place, text);
@@ -339,8 +332,7 @@ fn no_address(status: u32, reason: u32) -> TarhuspoAddressed
     }
 }
 
-#[unsafe(no_mangle)]
-pub extern "C" fn tarhuspo_address(
+pub fn tarhuspo_address(
     code: &[u8],
     features: u32,
     registers: &[u64],

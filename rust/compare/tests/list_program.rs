@@ -15,15 +15,17 @@ const LONGEST: [u8; 12] = [0x62, 0xF1, 0x7D, 0x58, 0x70, 0x8C, 0x24, 1, 2, 3, 4,
 
 /// Proves and compiles the program. That is quick if nothing has changed since it was last proved.
 fn program() -> PathBuf {
-    let top = Path::new(env!("CARGO_MANIFEST_DIR")).join("../..");
-    let proved = Command::new("rt")
-        .args(["check", "list"])
-        .current_dir(&top)
+    let folder = Path::new(env!("CARGO_MANIFEST_DIR")).join("../../crates/list");
+    // `rt run` leaves the program it has built in `out/`, and runs it: here on no bytes.
+    let ran = Command::new("rt")
+        .arg("run")
+        .current_dir(&folder)
+        .stdin(Stdio::null())
         .output()
         .expect("`rt` of the Rattle kit on the PATH");
-    let said = String::from_utf8_lossy(&proved.stdout);
-    assert!(proved.status.success(), "`rt check list` failed:\n{said}");
-    top.join("target/bin/list")
+    let said = String::from_utf8_lossy(&ran.stderr);
+    assert!(ran.status.success(), "`rt run` in crates/list:\n{said}");
+    folder.join("out/list")
 }
 
 fn run(program: &Path, input: &[u8]) -> Output {
