@@ -6,8 +6,8 @@ ghost use Rattle.std.specs.Prelude.{◌<◌, ◌≤◌, get_or};
 use decode::instruction::Decoded;
 use isa::features::Features;
 use isa::kinds::{Reg, RegisterFile};
-use libc::STDOUT_FILENO;
 use seq::byte_at;
+use std::io;
 use step::Stepped;
 
 // The features, the number of bytes, and the bytes.
@@ -213,132 +213,142 @@ fn digest(low: &[u8], high: &[u8], except: u8) -> u64 {
     d
 }
 
-fn print(text: &[u8]) {
-    io::write_all(STDOUT_FILENO, text);
+fn print(rt: &impl Print, text: &str) -> io::Result<()> {
+    rt.print(text)
 }
 
-fn print_number(number: u64) {
-    io::print_decimal(STDOUT_FILENO, number);
+fn print_number(rt: &impl Print, number: u64) -> io::Result<()> {
+    rt.print(number)
 }
 
-fn print_masks() {
-    print(b"masks:");
+fn print_masks(rt: &impl Print) -> io::Result<()> {
+    print(rt, "masks:")?;
     for k in 0..8 {
-        print(b" ");
-        io::print_hex(STDOUT_FILENO, MASKS[k], 1);
+        print!(rt; " {:x}", MASKS[k])?;
     }
-    print(b"\n");
+    print(rt, "\n")
 }
 
-fn print_head() {
-    print_masks();
-    print(b"files: byte p is (p + 1) % 256 in the low file and (p + 1) / 256 in the high file\n");
+fn print_head(rt: &impl Print) -> io::Result<()> {
+    print_masks(rt)?;
     print(
-        b"memory: byte j is (3001 + j) % 256 for the low file and (3001 + j) / 256 for the high file\n",
-    );
+        rt,
+        "files: byte p is (p + 1) % 256 in the low file and (p + 1) / 256 in the high file\n",
+    )?;
     print(
-        b"shown: low byte + 256 * high byte, so 0 is zero, p + 1 the byte from offset p, 3001 + j memory byte j\n",
-    );
+        rt,
+        "memory: byte j is (3001 + j) % 256 for the low file and (3001 + j) / 256 for the high file\n",
+    )?;
     print(
-        b"digest: from 0, d = (16777619 * d + number) % 4294967296 over the numbers shown, in the order of offsets\n",
-    );
+        rt,
+        "shown: low byte + 256 * high byte, so 0 is zero, p + 1 the byte from offset p, 3001 + j memory byte j\n",
+    )?;
+    print(
+        rt,
+        "digest: from 0, d = (16777619 * d + number) % 4294967296 over the numbers shown, in the order of offsets\n",
+    )
 }
 
-fn print_bytes(bytes: &[u8]) {
+fn print_bytes(rt: &impl Print, bytes: &[u8]) -> io::Result<()> {
     for i in 0..bytes.len() {
-        print(b" ");
-        io::print_hex(STDOUT_FILENO, byte_at(bytes, i) as u64, 2);
+        print!(rt; " {:02x}", byte_at(bytes, i))?;
     }
+    Ok(())
 }
 
 // An answer's number, with the wrong field's behind a colon if it is for one.
-fn print_answer(answer: u32, reason: u32, length: usize) {
-    print(b"answer ");
-    print_number(answer as u64);
+fn print_answer(rt: &impl Print, answer: u32, reason: u32, length: usize) -> io::Result<()> {
+    print(rt, "answer ")?;
+    print_number(rt, answer as u64)?;
     if reason > 0 {
-        print(b":");
-        print_number(reason as u64);
+        print(rt, ":")?;
+        print_number(rt, reason as u64)?;
     }
-    print(b", length ");
-    print_number(length as u64);
+    print(rt, ", length ")?;
+    print_number(rt, length as u64)
 }
 
-fn print_summary(s: Summary) {
-    print(b"decode: ");
-    print_answer(s.answer, s.reason, s.length);
-    print(b", memory ");
-    print_number(s.wanted as u64);
-    print(b"\n");
+fn print_summary(rt: &impl Print, s: Summary) -> io::Result<()> {
+    print(rt, "decode: ")?;
+    print_answer(rt, s.answer, s.reason, s.length)?;
+    print(rt, ", memory ")?;
+    print_number(rt, s.wanted as u64)?;
+    print(rt, "\n")
 }
 
-fn print_stepped(stepped: Stepped) {
+fn print_stepped(rt: &impl Print, stepped: Stepped) -> io::Result<()> {
     match stepped {
-        Stepped::Done(length) => print_answer(0, 0, length),
-        Stepped::Refused(why) => print_answer(why.status(), why.reason(), 0),
+        Stepped::Done(length) => print_answer(rt, 0, 0, length)?,
+        Stepped::Refused(why) => print_answer(rt, why.status(), why.reason(), 0)?,
     }
-    print(b"\n");
+    print(rt, "\n")
 }
 
-fn print_register(low: &[u8], high: &[u8], register: u8) {
-    print(b"register ");
-    print_number(register as u64);
-    print(b":\n");
+fn print_register(rt: &impl Print, low: &[u8], high: &[u8], register: u8) -> io::Result<()> {
+    print(rt, "register ")?;
+    print_number(rt, register as u64)?;
+    print(rt, ":\n")?;
     for i in 0..REGISTER_BYTES {
-        print(b" ");
-        print_number(number_at(low, high, REGISTER_BYTES * register as usize + i));
+        print(rt, " ")?;
+        print_number(
+            rt,
+            number_at(low, high, REGISTER_BYTES * register as usize + i),
+        )?;
         if i % 16 == 15 {
-            print(b"\n");
+            print(rt, "\n")?;
         }
     }
+    Ok(())
 }
 
-fn print_digests(before: u64, after: u64) {
+fn print_digests(rt: &impl Print, before: u64, after: u64) -> io::Result<()> {
     if before == after {
-        print(b" unchanged: digest ");
+        print(rt, " unchanged: digest ")?;
     } else {
-        print(b" changed: digest ");
+        print(rt, " changed: digest ")?;
     }
-    io::print_hex(STDOUT_FILENO, before, 8);
-    print(b" before, ");
-    io::print_hex(STDOUT_FILENO, after, 8);
-    print(b" after\n");
+    print!(rt; "{before:08x} before, {after:08x} after\n")
 }
 
 // Carries out the step on both files, and shows the answers.
 fn step_both(
+    rt: &impl Print,
     code: &[u8],
     features: Features,
     low: &mut [u8],
     high: &mut [u8],
     control: &[u8],
     wanted: u8,
-) {
-    print(b"step, low file: ");
-    print_stepped(step_on(code, features, low, Half::Low, control, wanted));
-    print(b"step, high file: ");
-    print_stepped(step_on(code, features, high, Half::High, control, wanted));
+) -> io::Result<()> {
+    print(rt, "step, low file: ")?;
+    print_stepped(rt, step_on(code, features, low, Half::Low, control, wanted))?;
+    print(rt, "step, high file: ")?;
+    print_stepped(
+        rt,
+        step_on(code, features, high, Half::High, control, wanted),
+    )
 }
 
 // The destination, and which registers the digests are of.
-fn print_contents(low: &[u8], high: &[u8], destination: u8) {
+fn print_contents(rt: &impl Print, low: &[u8], high: &[u8], destination: u8) -> io::Result<()> {
     if destination < Reg::COUNT {
-        print_register(low, high, destination);
-        print(b"other");
+        print_register(rt, low, high, destination)?;
+        print(rt, "other")?;
     } else {
-        print(b"all");
+        print(rt, "all")?;
     }
-    print(b" registers");
+    print(rt, " registers")
 }
 
-fn run(code: &[u8], features: Features, control: &[u8]) {
+fn run(rt: &impl Print, code: &[u8], features: Features, control: &[u8]) -> io::Result<()> {
     let mut low = register_file(Half::Low, control);
     let mut high = register_file(Half::High, control);
     let s = summary_of(decode::decode(code, features));
-    print_summary(s);
+    print_summary(rt, s)?;
     let before = digest(&low, &high, s.destination);
-    step_both(code, features, &mut low, &mut high, control, s.wanted);
-    print_contents(&low, &high, s.destination);
-    print_digests(before, digest(&low, &high, s.destination));
+    step_both(rt, code, features, &mut low, &mut high, control, s.wanted)?;
+    print_contents(rt, &low, &high, s.destination)?;
+    print_digests(rt, before, digest(&low, &high, s.destination))
 }
 
 fn row(i: usize) -> [u8; 9]
@@ -348,46 +358,46 @@ fn row(i: usize) -> [u8; 9]
     CASES[i]
 }
 
-fn print_title(number: usize, features: u8, control: &[u8]) {
-    print(b"\ncase ");
-    print_number(number as u64);
-    print(b" with features ");
-    print_number(features as u64);
+fn print_title(rt: &impl Print, number: usize, features: u8, control: &[u8]) -> io::Result<()> {
+    print(rt, "\ncase ")?;
+    print_number(rt, number as u64)?;
+    print(rt, " with features ")?;
+    print_number(rt, features as u64)?;
     if control.len() > 0 {
-        print(b", every lane of register 3 and of memory");
-        print_bytes(control);
+        print(rt, ", every lane of register 3 and of memory")?;
+        print_bytes(rt, control)?;
     }
-    print(b":");
+    print(rt, ":")
 }
 
 // An empty control is none.
-fn run_case(number: usize, control: &[u8])
+fn run_case(rt: &impl Print, number: usize, control: &[u8]) -> io::Result<()>
     requires { (1 ≤ number) × (number ≤ 60) }
 {
     let case = row(number - 1);
     let features = case[0];
     let end = 2 + case[1] as usize;
-    print_title(number, features, control);
-    print_bytes(&case[2..end]);
-    print(b"\n");
-    run(&case[2..end], Features(features as u32), control);
+    print_title(rt, number, features, control)?;
+    print_bytes(rt, &case[2..end])?;
+    print(rt, "\n")?;
+    run(rt, &case[2..end], Features(features as u32), control)
 }
 
 // Bytes that name their places are poor controls, so that these cases run once more with others.
-fn run_controlled() {
-    run_case(13, &QWORDS_2_1);
-    run_case(19, &BYTE_CONTROLS);
-    run_case(28, &DWORDS_3210);
-    run_case(28, &DWORDS_6745);
-    run_case(29, &DWORDS_3210);
-    run_case(29, &DWORDS_6745);
-    run_case(30, &BYTE_CONTROLS);
+fn run_controlled(rt: &impl Print) -> io::Result<()> {
+    run_case(rt, 13, &QWORDS_2_1)?;
+    run_case(rt, 19, &BYTE_CONTROLS)?;
+    run_case(rt, 28, &DWORDS_3210)?;
+    run_case(rt, 28, &DWORDS_6745)?;
+    run_case(rt, 29, &DWORDS_3210)?;
+    run_case(rt, 29, &DWORDS_6745)?;
+    run_case(rt, 30, &BYTE_CONTROLS)
 }
 
-fn main() {
-    print_head();
+fn main(rt: HostRuntime) -> io::Result<()> {
+    print_head(&rt)?;
     for i in 0..CASES.len() {
-        run_case(i + 1, b"");
+        run_case(&rt, i + 1, b"")?;
     }
-    run_controlled();
+    run_controlled(&rt)
 }

@@ -2,7 +2,8 @@
 #![tactic(auto)]
 
 use isa::kinds::Code;
-use libc::{STDIN_FILENO, STDOUT_FILENO};
+use std::io;
+use std::io::Read;
 
 // One byte more than a list may have, so that a longer one is refused.
 const MOST: usize = Code::LIMIT + 1;
@@ -11,22 +12,22 @@ const MOST: usize = Code::LIMIT + 1;
 const PIECE: usize = 4096;
 
 // A refused listing has no bytes, and none remain.
-fn print(code: &[u8]) {
+fn print(rt: &impl Print, code: &[u8]) -> io::Result<()> {
     let mut text = [0u8; PIECE];
     let mut place: usize = 0;
     loop {
         let listed = listing::listing(code, place, &mut text);
         let end = listed.written;
-        io::write_all(STDOUT_FILENO, &text[..end]);
+        rt.write_all(&text[..end])?;
         if !listed.more {
-            return;
+            return Ok(());
         }
         place = listed.next;
     }
 }
 
-fn main() {
-    let mut code = [0u8; MOST];
-    let n = io::read_full(STDIN_FILENO, &mut code);
-    print(&code[..n]);
+fn main(rt: HostRuntime) -> io::Result<()> {
+    let mut code = Vec::new(rt.alloc());
+    rt.reader().take(MOST as u64).read_to_end(&mut code)?;
+    print(&rt, code.as_slice())
 }

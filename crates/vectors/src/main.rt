@@ -2,6 +2,8 @@
 // and of what is written.
 #![tactic(auto)]
 
+ghost use Rattle.std.specs.Prelude.{◌≤◌, IfOk, length};
+
 mod calls;
 mod digest;
 mod number;
@@ -9,69 +11,64 @@ mod pools;
 
 use calls::{Entry, Line, RECORD_ROOM};
 use digest::Digest;
-use libc::STDOUT_FILENO;
 use number::u16_at;
+use std::io::Read;
+use std::rt::Files;
+use std::{fs, io};
 
 // Inputs of each entry point.
 const INPUTS: u64 = 20000;
 
 const CODE_ROOM: usize = 16640;
 
-fn print(text: &[u8]) {
-    io::write_all(STDOUT_FILENO, text);
+fn print(rt: &impl Print, text: &str) -> io::Result<()> {
+    rt.print(text)
 }
 
-fn print_number(number: u64) {
-    io::print_hex(STDOUT_FILENO, number, 1);
-    print(b" ");
+fn print_number(rt: &impl Print, number: u64) -> io::Result<()> {
+    print!(rt; "{number:x} ")
 }
 
-fn print_digest(d: Digest) {
-    io::print_hex(STDOUT_FILENO, d.first, 8);
-    io::print_hex(STDOUT_FILENO, d.second, 8);
-    print(b"\n");
+fn print_digest(rt: &impl Print, d: Digest) -> io::Result<()> {
+    println!(rt; "{:08x}{:08x}", d.first, d.second)
 }
 
 // How much there was of what has this name.
-fn print_count(name: &[u8], count: u64) {
-    print(name);
-    print(b" ");
-    io::print_decimal(STDOUT_FILENO, count);
-    print(b"\n");
+fn print_count(rt: &impl Print, name: &str, count: u64) -> io::Result<()> {
+    println!(rt; "{name} {count}")
 }
 
 // Answers whether there is a line.
-fn print_line(line: Line) -> bool {
+fn print_line(rt: &impl Print, line: Line) -> io::Result<bool> {
     match line {
         Line::Malformed => {
-            return false;
+            return Ok(false);
         }
         Line::Status(status, digest) => {
-            print_number(status as u64);
-            print_digest(digest);
+            print_number(rt, status as u64)?;
+            print_digest(rt, digest)?;
         }
         Line::TwoMore(status, first, second, digest) => {
-            print_number(status as u64);
-            print_number(first);
-            print_number(second);
-            print_digest(digest);
+            print_number(rt, status as u64)?;
+            print_number(rt, first)?;
+            print_number(rt, second)?;
+            print_digest(rt, digest)?;
         }
         Line::ThreeMore(status, first, second, third, digest) => {
-            print_number(status as u64);
-            print_number(first);
-            print_number(second);
-            print_number(third);
-            print_digest(digest);
+            print_number(rt, status as u64)?;
+            print_number(rt, first)?;
+            print_number(rt, second)?;
+            print_number(rt, third)?;
+            print_digest(rt, digest)?;
         }
         Line::Undigested(status, first, second, third) => {
-            print_number(status as u64);
-            print_number(first);
-            print_number(second);
-            io::print_hex(STDOUT_FILENO, third, 1);
-            print(b"\n");
+            print_number(rt, status as u64)?;
+            print_number(rt, first)?;
+            print_number(rt, second)?;
+            println!(rt; "{third:x}")?;
         }
     }
-    true
+    Ok(true)
 }
 
 // Where the code of an input stands.
@@ -125,105 +122,136 @@ fn line_of(
     calls::call(entry, record, &all[0..length], pools)
 }
 
-fn read_record(fd: i32, size: usize, record: &mut [u8]) -> bool {
-    if size > record.len() {
-        return false;
+// Reads until the buffer is full or the input ends. Answers how many bytes there were.
+fn read_full(from: &mut impl Read, buffer: &mut [u8]) -> io::Result<usize>
+    ensures { IfOk result (λ n. n ≤ length buffer.new) }
+{
+    let mut done: usize = 0;
+    while done < buffer.len() {
+        let got = from.read(&mut buffer[done..])?;
+        if got == 0 {
+            break;
+        }
+        done += got;
     }
-    let got = io::read_full(fd, &mut record[0..size]);
-    got == size
+    Ok(done)
 }
 
-fn code_length(fd: i32) -> usize {
-    let mut length = [0u8; 2];
-    let got = io::read_full(fd, &mut length);
-    if got < 2 {
-        return usize::MAX;
+fn read_record(from: &mut impl Read, size: usize, record: &mut [u8]) -> io::Result<bool> {
+    if size > record.len() {
+        return Ok(false);
     }
-    u16_at(&length, 0) as usize
+    let got = read_full(from, &mut record[0..size])?;
+    Ok(got == size)
+}
+
+fn code_length(from: &mut impl Read) -> io::Result<usize> {
+    let mut length = [0u8; 2];
+    let got = read_full(from, &mut length)?;
+    if got < 2 {
+        return Ok(usize::MAX);
+    }
+    Ok(u16_at(&length, 0) as usize)
 }
 
 // Answers the length of the code, or more than there is room for if the code is not there in full.
-fn read_code(fd: i32, code: &mut [u8]) -> usize {
-    let length = code_length(fd);
+fn read_code(from: &mut impl Read, code: &mut [u8]) -> io::Result<usize> {
+    let length = code_length(from)?;
     if length > code.len() {
-        return usize::MAX;
+        return Ok(usize::MAX);
     }
-    let got = io::read_full(fd, &mut code[0..length]);
+    let got = read_full(from, &mut code[0..length])?;
     if got < length {
-        return usize::MAX;
+        return Ok(usize::MAX);
     }
-    length
+    Ok(length)
 }
 
 // Reads an input and calls its entry point. Answers whether the input was there and well formed.
-fn next(entry: Entry, inputs: i32, lists: i32, pools: &[u8; pools::SIZE]) -> bool {
+fn next(
+    rt: &impl Print,
+    entry: Entry,
+    inputs: &mut impl Read,
+    lists: &mut impl Read,
+    pools: &[u8; pools::SIZE],
+) -> io::Result<bool> {
     let mut record = [0u8; RECORD_ROOM];
-    if !read_record(inputs, record_size(entry), &mut record) {
-        return false;
+    if !read_record(inputs, record_size(entry), &mut record)? {
+        return Ok(false);
     }
     let mut code = [0u8; CODE_ROOM];
     let length = match code_of(entry) {
-        Code::Beside => read_code(inputs, &mut code),
-        Code::Listed => read_code(lists, &mut code),
+        Code::Beside => read_code(inputs, &mut code)?,
+        Code::Listed => read_code(lists, &mut code)?,
         Code::Absent => 0,
     };
-    print_line(line_of(entry, &record, &code, length, pools))
+    print_line(rt, line_of(entry, &record, &code, length, pools))
 }
 
 // Says so if the file goes on.
-fn close_at_end(fd: i32) {
+fn close_at_end(rt: &impl Print, mut file: impl Read + Drop) -> io::Result<()> {
     let mut more = [0u8; 1];
-    if io::read_full(fd, &mut more) > 0 {
-        print(b"the data goes on\n");
+    if read_full(&mut file, &mut more)? > 0 {
+        print(rt, "the data goes on\n")?;
     }
-    libc::close(fd);
+    Ok(())
 }
 
 // Every input of an entry point. Answers how many there were.
-fn each(entry: Entry, inputs: i32, lists: i32, pools: &[u8; pools::SIZE]) -> u64 {
+fn each(
+    rt: &impl Print,
+    entry: Entry,
+    inputs: &mut impl Read,
+    lists: &mut impl Read,
+    pools: &[u8; pools::SIZE],
+) -> io::Result<u64> {
     let mut done: u64 = 0;
     while done < INPUTS {
-        if !next(entry, inputs, lists, pools) {
+        if !next(rt, entry, inputs, lists, pools)? {
             break;
         }
         done += 1;
     }
-    done
+    Ok(done)
 }
 
-fn close_lists(entry: Entry, lists: i32) {
+fn close_lists(rt: &impl Print, entry: Entry, lists: impl Read + Drop) -> io::Result<()> {
     match code_of(entry) {
-        Code::Listed => close_at_end(lists),
-        _ => {
-            libc::close(lists);
-        }
+        Code::Listed => close_at_end(rt, lists),
+        _ => Ok(()),
     }
 }
 
-fn section(entry: Entry, name: &[u8], pools: &[u8; pools::SIZE]) {
-    let inputs = os::open_read(name);
-    let lists = os::open_read(b"lists");
-    print_count(name, each(entry, inputs, lists, pools));
-    close_at_end(inputs);
-    close_lists(entry, lists);
+fn section(
+    rt: &(impl Files + Print),
+    entry: Entry,
+    name: &str,
+    pools: &[u8; pools::SIZE],
+) -> io::Result<()> {
+    let mut inputs = fs::File::open(rt, name)?;
+    let mut lists = fs::File::open(rt, "lists")?;
+    let count = each(rt, entry, &mut inputs, &mut lists, pools)?;
+    print_count(rt, name, count)?;
+    close_at_end(rt, inputs)?;
+    close_lists(rt, entry, lists)
 }
 
-fn read_pools(pools: &mut [u8]) {
-    let fd = os::open_read(b"pools");
-    let got = io::read_full(fd, pools);
-    print_count(b"pools", got as u64);
-    close_at_end(fd);
+fn read_pools(rt: &(impl Files + Print), pools: &mut [u8]) -> io::Result<()> {
+    let mut file = fs::File::open(rt, "pools")?;
+    let got = read_full(&mut file, pools)?;
+    print_count(rt, "pools", got as u64)?;
+    close_at_end(rt, file)
 }
 
-fn main() {
+fn main(rt: HostRuntime) -> io::Result<()> {
     let mut pools = [0u8; pools::SIZE];
-    read_pools(&mut pools);
-    section(Entry::Decode, b"decode", &pools);
-    section(Entry::Step, b"step", &pools);
-    section(Entry::Run, b"run", &pools);
-    section(Entry::Build, b"build", &pools);
-    section(Entry::Apply, b"apply", &pools);
-    section(Entry::Compose, b"compose", &pools);
-    section(Entry::Listing, b"listing", &pools);
-    section(Entry::Address, b"address", &pools);
+    read_pools(&rt, &mut pools)?;
+    section(&rt, Entry::Decode, "decode", &pools)?;
+    section(&rt, Entry::Step, "step", &pools)?;
+    section(&rt, Entry::Run, "run", &pools)?;
+    section(&rt, Entry::Build, "build", &pools)?;
+    section(&rt, Entry::Apply, "apply", &pools)?;
+    section(&rt, Entry::Compose, "compose", &pools)?;
+    section(&rt, Entry::Listing, "listing", &pools)?;
+    section(&rt, Entry::Address, "address", &pools)
 }
