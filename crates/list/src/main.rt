@@ -1,6 +1,8 @@
 // Rule 8.8: prints the listing of the list on standard input, piece by piece, and nothing for one over 16,384 bytes.
 #![tactic(auto)]
 
+ghost use Rattle.std.specs.Prelude.{◌≤◌, IfOk, length};
+
 use isa::kinds::Code;
 use std::io;
 use std::io::Read;
@@ -26,8 +28,23 @@ fn print(rt: &impl Print, code: &[u8]) -> io::Result<()> {
     }
 }
 
+// Reads until the buffer is full or the input ends. Answers how many bytes there were.
+fn read_full(from: &mut impl Read, buffer: &mut [u8]) -> io::Result<usize>
+    ensures { IfOk result (λ n. n ≤ length buffer.new) }
+{
+    let mut done: usize = 0;
+    while done < buffer.len() {
+        let got = from.read(&mut buffer[done..])?;
+        if got == 0 {
+            break;
+        }
+        done += got;
+    }
+    Ok(done)
+}
+
 fn main(rt: HostRuntime) -> io::Result<()> {
-    let mut code = Vec::new(rt.alloc());
-    rt.reader().take(MOST as u64).read_to_end(&mut code)?;
-    print(&rt, code.as_slice())
+    let mut code = [0u8; MOST];
+    let n = read_full(&mut rt.reader(), &mut code)?;
+    print(&rt, &code[..n])
 }

@@ -1,31 +1,23 @@
-use Prim.Native.Nat.{◌-◌}
-use mathlib.Core.Path.{◌≡◌, refl, ◌∙◌, sym, ap}
-use mathlib.Core.Bool.{Bool, true, false, not}
-use native.Mathlib.Omega.{arith}
-use lib.Seq.{length-take-le}
+-- What was written is in the text, and where lines remain, the next place lies further on.
+use Rattle.std.proofs.Common.{◌≡◌, ℕ, ◌≤◌, List, length, true, rules, sym, ap, arith}
+use Rattle.std.proofs.Math.Seq.{length-take-le}
 use Rattle.listing.specs.declared.Listed.{Listed}
+use Rattle.listing.specs.Listing.{listing_of}
 use Rattle.listing.proofs.Laws.{written_fits, a_piece_continues}
 use Rattle.list.proofs.print.Goals as goal
 
-remain : (more : Bool) → not more ≡ false → more ≡ true
-remain true e = refl
-remain false e = sym e
-
-pub slice_bounds-listing-end : goal.slice_bounds-listing-end
-slice_bounds-listing-end c = sym c.loop-place.invariant
+fits : (code : List ℕ) (place : ℕ) (text new : List ℕ) (r : Listed) → r ≡ listing_of code place (length text) → length new ≡ length text → r.written ≤ length new
+fits code place text new r e n = rw (e, n) (written_fits code place text)
 
 pub slice_bounds-text-end : goal.slice_bounds-text-end
-slice_bounds-text-end c = (let l = c.loop-place in rw (c.listing-listed.ensures.0, c.listing-listed.auto.1.1.0) (written_fits ((c.args.code.now)) l.place l.text))
+slice_bounds-text-end g c = fits _ _ c.loop-place.text _ _ c.listing-listed.ensures.0 c.listing-listed.auto.text
 
 pub slice_bounds-write_all-end : goal.slice_bounds-write_all-end
-slice_bounds-write_all-end c = sym (length-take-le c.listing-listed.result.written c.listing-listed.new.1.1.0 ((let c = c.loop-place in rw (c.listing-listed.ensures.0, c.listing-listed.auto.1.1.0) (written_fits ((c.args.code.now)) c.place c.text))))
+slice_bounds-write_all-end g c = sym (length-take-le _ _ (fits _ _ c.loop-place.text _ _ c.listing-listed.ensures.0 c.listing-listed.auto.text))
 
--- where lines remain, the next place lies further on
-pub from_residual-requires : goal.from_residual-requires
-from_residual-requires c =
+pub loop-place-smaller : goal.loop-place-smaller
+loop-place-smaller g c =
     let e = c.listing-listed.ensures.0 in
-    let n = a_piece_continues ((c.args.code.now)) c.loop-place.place c.loop-place.text (remain _ (rw e at c.if-not-listed.false)) in
+    let more : c.listing-listed.result.more ≡ true = search rules in
+    let n = a_piece_continues c.args.code.now c.loop-place.place c.loop-place.text (rw e at more) in
     omega (arith, ap (λ (r : Listed). r.next) e, n.grows, n.inside)
-
-pub returns-in_err-write_all : goal.returns-in_err-write_all
-returns-in_err-write_all c = c.listing-listed.kept.1.1.0 ∙ c.loop-place.invariant
