@@ -18,7 +18,7 @@ loop-i-preserved c =
     let e = c.bytes-n.ensures.0 in
     let begun : c.if-k-eq0.from ≡ origin_in x c.args.bits (i / element_bytes x.element) =
     elim c.if-k-eq0.branch [
-      then-k-eq0 w ↦ w.from-is ∙ w.origin_at-from.ensures ∙ rw e
+      | then-k-eq0 w ↦ w.from-is ∙ w.origin_at-from.ensures ∙ rw e
       | else-k-eq0 w ↦ w.from-is ∙ c.loop-i.invariant.2 (λ h. w.if-k-eq0.false (rw e h))
     ] in (
       upto_more _ _ _ _ _ c.loop-i.invariant.0 (stored x c.args.bits c.args.map.now i _ e _ begun _ c.held_entry.ensures) (omega arith) refl,

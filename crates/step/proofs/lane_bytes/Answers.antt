@@ -27,7 +27,7 @@ loop-b-preserved c =
     elim c.if-k-eq0.branch [ then-k-eq0 w ↦ rw w.start-is w.element_start-start.ensures.1 | else-k-eq0 w ↦ rw w.start-is c.loop-b.invariant.3 ] in
     let serves : Serves c.args.x c.args.bits c.args.first.now c.args.third.now c.args.old.now i c.if-k-eq0.part.now c.if-k-eq0.start =
     elim c.if-k-eq0.branch [
-      then-k-eq0 w ↦ begun _ _ _ _ _ i _ e _ w.origin_at-from.ensures _ (rw w.part-is w.origin_part-part.ensures) _ w.origin_element.ensures _ (w.start-is ∙ w.element_start-start.ensures.0)
+      | then-k-eq0 w ↦ begun _ _ _ _ _ i _ e _ w.origin_at-from.ensures _ (rw w.part-is w.origin_part-part.ensures) _ w.origin_element.ensures _ (w.start-is ∙ w.element_start-start.ensures.0)
       | else-k-eq0 w ↦ rw (w.part-is, w.start-is) (c.loop-b.invariant.2 (λ h. w.if-k-eq0.false (rw e h)))
     ] in (
       upto_more _ _ _ _ _ c.loop-b.invariant.0 (stored _ _ _ _ _ i _ e _ _ serves _ c.repeated_byte.ensures) (omega arith) refl,

@@ -31,7 +31,7 @@ loop-i-preserved c =
     let on = passed rows _ c.loop-i.i c.loop-i.invariant.1 in (
       omega (arith, h),
       elim c.if-table-i.branch [
-        then-table-i+else-matches w ↦ on w.row_of-row.result w.matches.result h w.row_of-row.ensures w.matches.ensures w.if-matches.false
+        | then-table-i+else-matches w ↦ on w.row_of-row.result w.matches.result h w.row_of-row.ensures w.matches.ensures w.if-matches.false
         | else-table-i w ↦ on (get_or rows c.loop-i.i blank) false h refl (sym (other_opcode _ _ (λ e. w.if-table-i.false (ap (λ (r : Row). r.opcode) (row_is c.loop-i.i _ refl) ∙ e)))) refl
       ],
     )

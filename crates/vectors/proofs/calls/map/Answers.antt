@@ -1,0 +1,11 @@
+use mathlib.Core.Path.{sym}
+use borrow.Author.Rules.{rules}
+use lib.Seq.{set_out}
+use Rattle.vectors.proofs.calls.map.Goals as goal
+
+pub returns-then-place-lt-ROOM : goal.returns-then-place-lt-ROOM
+returns-then-place-lt-ROOM c = rw (c.entries-map.ensures, c.u16_at.ensures, c.u16_at-place.ensures, c.u16_at-then-place-lt-ROOM.ensures)
+
+pub returns-else-place-lt-ROOM : goal.returns-else-place-lt-ROOM
+returns-else-place-lt-ROOM c =
+    rw (← c.u16_at-place.ensures, ← c.u16_at.ensures, ← c.entries-map.ensures) (sym (set_out _ _ _ (search rules)))

@@ -1,0 +1,10 @@
+use Prim.Native.Nat.{◌+◌, ◌*◌, ◌-◌, ◌%◌}
+use Rattle.seq.proofs.Storing.{Storing}
+use Rattle.vectors.specs.Number.{number_at}
+use Rattle.vectors.proofs.pools.entries.Given as goal
+
+abbrev pub invariant-loop-i : goal.invariant-loop-i
+invariant-loop-i l = Storing l.initial.entries (λ k. number_at 2 l.pools (67584 + 2 * ((l.start + k) % 65536))) 2560 l.entries l.i
+
+abbrev pub decreases-loop-i : goal.decreases-loop-i
+decreases-loop-i l = 2560 - l.i
