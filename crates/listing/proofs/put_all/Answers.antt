@@ -1,19 +1,9 @@
-use Prim.Native.Nat.{◌-◌}
 use mathlib.Core.Path.{refl}
-use native.Mathlib.Omega.{arith}
 use Rattle.listing.proofs.Puts.{starts, copies, ends}
 use Rattle.listing.proofs.put_all.Goals as goal
 
 pub loop-i-init : goal.loop-i-init
 loop-i-init c = starts c.args.text.now c.args.at c.args.bytes.now
-
-pub overflow_add-text : goal.overflow_add-text
-overflow_add-text c =
-    omega (arith, c.requires, c.loop-i-test.true)
-
-pub bounds-text-at : goal.bounds-text-at
-bounds-text-at c =
-    omega (arith, c.requires, c.loop-i-test.true, c.loop-i.invariant.size)
 
 pub loop-i-preserved : goal.loop-i-preserved
 loop-i-preserved c =

@@ -6,17 +6,8 @@ use Rattle.listing.proofs.Puts.{whole_part}
 use Rattle.listing.proofs.Writing.{too_long, put_whole}
 use Rattle.listing.proofs.put_fitting.Goals as goal
 
-pub put_line-size-requires : goal.put_line-size-requires
-put_line-size-requires c = omega (arith, c.requires.1)
-
-pub overflow_sub-text : goal.overflow_sub-text
-overflow_sub-text c = c.requires.0
-
 pub returns-then-text-at : goal.returns-then-text-at
 returns-then-text-at c = too_long c.args.text.now c.args.at (line_text c.args.line) (omega (arith, c.if-text-at.true, c.put_line-size.ensures.0))
-
-pub slice_bounds-put_all-end : goal.slice_bounds-put_all-end
-slice_bounds-put_all-end c = omega (arith, c.put_line-size.ensures.0, c.requires.1, c.put_line-size.auto.text)
 
 -- the part that is put in is the line
 pub put_all-requires : goal.put_all-requires

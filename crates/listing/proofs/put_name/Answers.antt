@@ -1,13 +1,6 @@
 use mathlib.Core.Path.{sym}
-use native.Mathlib.Omega.{arith}
 use Rattle.listing.proofs.Names.{row_part}
 use Rattle.listing.proofs.put_name.Goals as goal
-
-pub overflow_cast-size : goal.overflow_cast-size
-overflow_cast-size c = omega (arith, c.name_size-size.ensures.1)
-
-pub slice_bounds-put_all-end : goal.slice_bounds-put_all-end
-slice_bounds-put_all-end c = omega (arith, c.name_size-size.ensures.1)
 
 -- the part of the row that is put in is the name's field
 pub put_all-requires : goal.put_all-requires
