@@ -7,3 +7,4 @@ pub mod Fields
 pub mod Instruction
 pub mod Decode
 pub mod Cases
+pub mod Fits

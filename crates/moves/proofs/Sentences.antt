@@ -17,7 +17,7 @@ use Rattle.isa.specs.declared.operands.Half.TheVariants.{Low, High}
 use Rattle.isa.specs.declared.operands.Move.{Move}
 use Rattle.isa.specs.declared.operands.Move.TheVariants.{ByDigit, InLane, Anywhere, Halves, LaneOrZero, InLaneOrZero}
 use Rattle.isa.proofs.Sizes.{Lanes, element_divides, width_lanes, some_bytes, divides_width, some_elements}
-use Rattle.decode.proofs.Ranges.{Fits}
+use Rattle.decode.specs.Fits.{Fits}
 use Rattle.decode.specs.declared.instruction.Instruction.{Instruction}
 use Rattle.moves.specs.Pick.{per_lane, group_start, digit, in_lane, half_start, halves, lane_or_zero, in_lane_or_zero, pick_of}
 use Rattle.moves.specs.Origin.{written, origin_of, origin_by}
