@@ -1,6 +1,6 @@
 -- Rule 2.15 for addresses: an accepted instruction's address is decided by its own bytes alone.
+use Rattle.std.specs.Prelude.{if◌then◌else◌}
 use Rattle.std.proofs.Common.{◌≡◌, ℕ, ◌+◌, ◌/◌, ◌%◌, ◌<◌, ◌≤◌, Bool, true, false, eqb, List, ◌++◌, length, get_or, sym, refl, ap, ◌∙◌, arith, eq-eqb, ne_eqb, eqb-true}
-use Rattle.seq.specs.Choice.{if◌then◌else◌}
 use Rattle.isa.specs.Operands.{under_vex}
 use Rattle.isa.specs.declared.table.Row.{Row}
 use Rattle.decode.specs.Modrm.{sib_size, displacement_size}

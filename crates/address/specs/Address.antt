@@ -1,6 +1,5 @@
 -- Rules 10.1 and 10.8 (request 4): the address of an instruction's memory operand, from the general registers and the instruction's own address.
-use Rattle.std.specs.Prelude.{ℕ, ◌+◌, ◌*◌, List, length, ◌==◌, slice_index}
-use Rattle.seq.specs.Choice.{if◌then◌else◌}
+use Rattle.std.specs.Prelude.{ℕ, ◌+◌, ◌*◌, List, length, ◌==◌, slice_index, if◌then◌else◌}
 use Rattle.isa.specs.declared.refusal.Refusal.TheVariants.{Argument}
 use Rattle.decode.specs.Decode.{decode_of}
 use Rattle.decode.specs.declared.instruction.Third.{Third}

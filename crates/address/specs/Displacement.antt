@@ -1,6 +1,5 @@
 -- Rules 10.6 and 10.7 (request 4): a displacement, as a number modulo 2^64. -1 stands there as 2^64 - 1.
-use Rattle.std.specs.Prelude.{ℕ, ◌+◌, ◌-◌, ◌*◌, ◌/◌, ◌%◌, ◌^◌, Bool, List, ◌==◌, nat_lt, slice_index}
-use Rattle.seq.specs.Choice.{if◌then◌else◌}
+use Rattle.std.specs.Prelude.{ℕ, ◌+◌, ◌-◌, ◌*◌, ◌/◌, ◌%◌, ◌^◌, Bool, List, ◌==◌, nat_lt, slice_index, if◌then◌else◌}
 use Rattle.isa.specs.Operands.{width_bytes, element_bytes}
 use Rattle.isa.specs.declared.operands.Encoding.{Encoding}
 use Rattle.isa.specs.declared.operands.Encoding.TheVariants.{Vex, Evex}

@@ -1,7 +1,6 @@
 -- Section 10 of the rules, computed: whole addresses from bytes. In `registers` register k holds 65,536 · 2^k, so that a sum shows what it is made of,
 -- and the instruction stands at 16,384. A negative number is written as 2^64 less.
-use Rattle.std.specs.Prelude.{◌≡◌, ℕ, ◌+◌, ◌-◌, ◌*◌, ◌/◌, ◌%◌, ◌^◌, List, [], ◌∷◌, map, replicate, ◌==◌, nat_eq, refl}
-use Rattle.seq.specs.Choice.{if◌then◌else◌}
+use Rattle.std.specs.Prelude.{◌≡◌, ℕ, ◌+◌, ◌-◌, ◌*◌, ◌/◌, ◌%◌, ◌^◌, List, [], ◌∷◌, map, replicate, ◌==◌, nat_eq, refl, if◌then◌else◌}
 use Rattle.seq.specs.Tabulate.{tabulate}
 use Rattle.isa.specs.Features.{all_features, has_feature}
 use Rattle.isa.specs.Operands.{width_of, element_of, digits_of, half_of, move_from, control_of}

@@ -1,7 +1,7 @@
 -- Rules 10.2 to 10.5 (request 4): what the address of a memory form is made of. f is its prefix, m its ModRM byte, s the byte behind that, which is
 -- the SIB byte if rm is 4.
-use Rattle.std.specs.Prelude.{ℕ, ◌+◌, ◌*◌, ◌/◌, ◌%◌, Bool, List, ◌==◌, nat_eq, slice_index_or}
-use Rattle.seq.specs.Choice.{if◌then◌else◌, both}
+use Rattle.std.specs.Prelude.{ℕ, ◌+◌, ◌*◌, ◌/◌, ◌%◌, Bool, List, ◌==◌, nat_eq, slice_index_or, if◌then◌else◌}
+use Rattle.seq.specs.Choice.{both}
 use Rattle.decode.specs.Modrm.{sib_size, displacement_size}
 use Rattle.decode.specs.Fields.{prefix_in}
 use Rattle.decode.specs.declared.prefix.Prefix.{Prefix}

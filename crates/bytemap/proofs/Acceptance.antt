@@ -1,4 +1,5 @@
 -- What stands behind an accepted list, and what makes one.
+use Rattle.std.specs.Prelude.{if◌then◌else◌}
 use Prim.Native.Nat.{ℕ, ◌≤◌}
 use mathlib.Core.Path.{◌≡◌, refl}
 use mathlib.Core.Bool.{Bool, true, false}
@@ -6,7 +7,7 @@ use mathlib.Core.List.{List}
 use lib.Dec.{eqb, leb}
 use lib.ListN.{length}
 use borrow.Author.Tests.{eqb-true, leb-true, eq-eqb, le-leb}
-use Rattle.seq.specs.Choice.{if◌then◌else◌, both}
+use Rattle.seq.specs.Choice.{both}
 use Rattle.isa.specs.Kinds.{mask_count, map_entries, code_limit}
 use Rattle.isa.specs.Features.{features_known}
 use Rattle.isa.specs.declared.refusal.Refusal.TheVariants.{Argument, TooLong}

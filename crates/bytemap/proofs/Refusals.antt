@@ -1,11 +1,12 @@
 -- Rule 5.2: a refusal changes no entry and no byte.
+use Rattle.std.specs.Prelude.{if◌then◌else◌}
 use Prim.Native.Nat.{ℕ}
 use mathlib.Core.Path.{◌≡◌, refl, sym}
 use mathlib.Core.Bool.{Bool, true, false}
 use mathlib.Core.List.{List}
 use lib.Dec.{eqb, leb}
 use lib.ListN.{length}
-use Rattle.seq.specs.Choice.{if◌then◌else◌, both}
+use Rattle.seq.specs.Choice.{both}
 use Rattle.isa.specs.Kinds.{file_size, map_entries, code_limit}
 use Rattle.isa.specs.declared.refusal.Refusal.{Refusal}
 use Rattle.isa.specs.declared.refusal.Refusal.TheVariants.{Argument, TooLong, BadEntry}

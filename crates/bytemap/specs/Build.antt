@@ -1,7 +1,7 @@
 -- Rules 7.2 to 7.6: building a list's map. A step is refused as decoding refuses it, and then where no byte map can say what it does. The map of an
 -- accepted list is what its steps make of the map that moves nothing, whose entries move as bytes do.
-use Rattle.std.specs.Prelude.{ℕ, Bool, List, [], ◌∷◌, eqb, leb, length}
-use Rattle.seq.specs.Choice.{if◌then◌else◌, both}
+use Rattle.std.specs.Prelude.{ℕ, Bool, List, [], ◌∷◌, eqb, leb, length, if◌then◌else◌}
+use Rattle.seq.specs.Choice.{both}
 use Rattle.seq.specs.Tabulate.{tabulate}
 use Rattle.isa.specs.Kinds.{mask_count, map_entries, zero_entry, code_limit}
 use Rattle.isa.specs.Features.{features_known}

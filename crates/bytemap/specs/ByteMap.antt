@@ -1,7 +1,7 @@
 -- Rules 7.1 and 7.7 to 7.9: a byte map has an entry for each byte of a register file: the offset that the byte comes from, or 2,048 for a zero.
 -- Reading past the end of a file gives 0, and past the end of a map the entry for zero, so that 2,048 stays what it is.
-use Rattle.std.specs.Prelude.{ℕ, Bool, true, List, [], ◌∷◌, map, eqb, leb, length, get_or}
-use Rattle.seq.specs.Choice.{if◌then◌else◌, both}
+use Rattle.std.specs.Prelude.{ℕ, Bool, true, List, [], ◌∷◌, map, eqb, leb, length, get_or, if◌then◌else◌}
+use Rattle.seq.specs.Choice.{both}
 use Rattle.isa.specs.Kinds.{file_size, map_entries, zero_entry}
 use Rattle.isa.specs.declared.refusal.Refusal.TheVariants.{Argument, BadEntry}
 use Rattle.run.specs.declared.Answer.{Answer}

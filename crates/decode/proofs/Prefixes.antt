@@ -1,6 +1,7 @@
 -- Laws of the prefixes, rules 2.3, 2.5 and 5.5 (request 7). Each field is a number of no more bits than it has. Of bytes that begin with a prefix and an
 -- opcode, under features that pass: with 62 the answer is 4 for the fixed bits exactly if P bit 3 is not 0 or Q bit 2 not 1; otherwise it is 3, with each
 -- prefix, if the map or pp is one that no row has. No other bit counts for that, and no byte behind.
+use Rattle.std.specs.Prelude.{if◌then◌else◌}
 use Prim.Native.Nat.{ℕ, ◌<◌, ◌/◌, ◌%◌}
 use mathlib.Core.Path.{◌≡◌, refl, ◌∙◌, sym, ap}
 use mathlib.Core.Bool.{Bool, true, false, not}
@@ -10,7 +11,7 @@ use native.Mathlib.Omega.{arith}
 use lib.ListN.{length, get_or}
 use lib.Dec.{eqb}
 use borrow.Author.Tests.{ne_eqb, lt-leb}
-use Rattle.seq.specs.Choice.{if◌then◌else◌, both, either}
+use Rattle.seq.specs.Choice.{both, either}
 use Rattle.seq.proofs.Choice.{both_true, of_either}
 use Rattle.isa.specs.Facts.{every}
 use Rattle.isa.specs.Features.{features_known}

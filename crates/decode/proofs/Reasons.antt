@@ -1,4 +1,5 @@
 -- Rule 5.11 (request 3): the field that comes with answer 4 is wrong, and none before it is. Where the answer is 0, none is.
+use Rattle.std.specs.Prelude.{if◌then◌else◌}
 use Prim.Native.Nat.{ℕ, ◌+◌, ◌<◌}
 use mathlib.Core.Path.{◌≡◌, refl, ◌∙◌, ap}
 use mathlib.Core.Bool.{Bool, true, false}
@@ -6,7 +7,6 @@ use mathlib.Core.List.{List}
 use native.Mathlib.Omega.{arith}
 use lib.ListN.{length, get_or}
 use lib.Dec.{eqb, leb, ltb}
-use Rattle.seq.specs.Choice.{if◌then◌else◌}
 use Rattle.seq.proofs.Choice.{took_first, took_second, of_either}
 use Rattle.isa.specs.Features.{features_known}
 use Rattle.isa.specs.Refusal.{status_of, field_number}

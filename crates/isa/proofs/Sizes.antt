@@ -1,5 +1,6 @@
 -- The sizes of elements and widths, gone through once: an element's bytes divide a lane of 16, and a width is whole lanes. What else is said of
 -- sizes is said of every n that divides 16.
+use Rattle.std.specs.Prelude.{if◌then◌else◌}
 use Prim.Native.Nat.{ℕ, ◌+◌, ◌*◌, ◌/◌, ◌%◌, ◌<◌, ◌≤◌, ◌∣◌}
 use mathlib.Core.Path.{◌≡◌, refl, sym}
 use mathlib.Core.Bool.{Bool, true, false}
@@ -7,7 +8,6 @@ use native.Mathlib.Omega.{arith}
 use native.Mathlib.Nat.{div-add-mod, mod-lt, div-eq_of_lt-le, mul_comm, dvd_of_mod-eq-zero, dvd_trans, le_of_dvd, pos_of_dvd_of_pos, le-div_iff_mul-le, mul-div_cancel', div-mul_cancel, mul-le-mul_left, lt_of_mul-lt-mul_left}
 use lib.Dec.{eqb, lit≤}
 use borrow.Author.Tests.{eqb-true, eqb-false}
-use Rattle.seq.specs.Choice.{if◌then◌else◌}
 use Rattle.isa.specs.Operands.{width_of, width_number, width_bytes, element_bytes}
 use Rattle.isa.specs.declared.operands.Width.{Width}
 use Rattle.isa.specs.declared.operands.Width.TheVariants.{Bits128, Bits256, Bits512}

@@ -1,7 +1,7 @@
 -- Rules 3.5 to 3.7, 4.5 to 4.7, 4.9, 4.17 and 5.7, and the W of table 3.1, said of the whole table: each is a test of a row, and every row passes it.
 -- And rules 1.6, 3.1 and 3.2 by numbers.
-use Rattle.std.specs.Prelude.{◌*◌, ◌/◌, ◌^◌, ◌≡◌, refl, Bool, true, not, List, [], ◌∷◌, map, eqb, length, replicate}
-use Rattle.seq.specs.Choice.{if◌then◌else◌, both, either}
+use Rattle.std.specs.Prelude.{◌*◌, ◌/◌, ◌^◌, ◌≡◌, refl, Bool, true, not, List, [], ◌∷◌, map, eqb, length, replicate, if◌then◌else◌}
+use Rattle.seq.specs.Choice.{both, either}
 use Rattle.isa.specs.Features.{avx, avx2, avx512f, avx512vl, avx512vbmi, avx512bw, all_features, has_feature}
 use Rattle.isa.specs.Operands.{mnemonic_number, vpermilpd, vpermb, vpshufd, vperm2f128, vpermilps, vunpckhps, vunpckhpd, vpshufb, under_vex, under_evex, width_of, width_bytes, half_number, control_number}
 use Rattle.isa.specs.Table.{w0, w1, any_w, from128, from256, table, rows}

@@ -1,6 +1,6 @@
 -- Rule 1.5, request 6: the sets of features that answer 1 lets pass, computed over every number up to the feature limit, and each by its features' names.
-use Rattle.std.specs.Prelude.{ℕ, suc, ◌≡◌, refl, Bool, not, List, [], ◌∷◌, map, length}
-use Rattle.seq.specs.Choice.{if◌then◌else◌, both, either}
+use Rattle.std.specs.Prelude.{ℕ, suc, ◌≡◌, refl, Bool, not, List, [], ◌∷◌, map, length, if◌then◌else◌}
+use Rattle.seq.specs.Choice.{both, either}
 use Rattle.seq.specs.Tabulate.{tabulate}
 use Rattle.isa.specs.Features.{avx, avx2, avx512f, avx512vl, avx512vbmi, avx512bw, all_features, has_feature, features_known}
 

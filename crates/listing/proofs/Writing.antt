@@ -1,4 +1,5 @@
 -- What the loop that writes lines keeps: what is put in so far, and the piece from the next place on, make up the whole piece.
+use Rattle.std.specs.Prelude.{if◌then◌else◌}
 use Prim.Native.Nat.{ℕ, ◌+◌, ◌-◌, ◌<◌, ◌≤◌}
 use mathlib.Core.Path.{◌≡◌, refl, ◌∙◌, sym, ap}
 use mathlib.Core.Bool.{Bool, true, false}
@@ -8,7 +9,6 @@ use native.Mathlib.Nat.{add-zero}
 use lib.Dec.{leb}
 use lib.ListN.{length, drop, length-append}
 use borrow.Author.Tests.{leb-true, leb-false, le-leb, lt-leb}
-use Rattle.seq.specs.Choice.{if◌then◌else◌}
 use Rattle.isa.specs.Features.{all_features}
 use Rattle.isa.specs.Kinds.{code_limit}
 use Rattle.isa.specs.declared.refusal.Refusal.{Refusal}

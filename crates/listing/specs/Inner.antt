@@ -1,7 +1,6 @@
 -- What the contracts of the listing's inner functions say. No public promise cites these, so that nobody has to believe them.
-use Rattle.std.specs.Prelude.{ℕ, ◌+◌, ◌-◌, Bool, List, leb, length, get_or}
+use Rattle.std.specs.Prelude.{ℕ, ◌+◌, ◌-◌, Bool, List, leb, length, get_or, if◌then◌else◌}
 use Rattle.std.proofs.lemmas.List.Edits.{sets}
-use Rattle.seq.specs.Choice.{if◌then◌else◌}
 use Rattle.decode.specs.declared.instruction.Decoded.{Decoded}
 use Rattle.run.specs.declared.Answer.{Answer}
 use Rattle.listing.specs.Text.{ascii}

@@ -1,6 +1,6 @@
 -- Section 8 of the rules, with requests 3 and 5: a list of instructions as text, and the text in pieces.
-use Rattle.std.specs.Prelude.{ℕ, ◌+◌, ◌-◌, ◌*◌, Bool, true, false, List, [], ◌∷◌, ◌++◌, eqb, leb, length, get_or, drop}
-use Rattle.seq.specs.Choice.{if◌then◌else◌, both}
+use Rattle.std.specs.Prelude.{ℕ, ◌+◌, ◌-◌, ◌*◌, Bool, true, false, List, [], ◌∷◌, ◌++◌, eqb, leb, length, get_or, drop, if◌then◌else◌}
+use Rattle.seq.specs.Choice.{both}
 use Rattle.isa.specs.Kinds.{code_limit, text_least}
 use Rattle.isa.specs.Features.{all_features}
 use Rattle.isa.specs.Operands.{mnemonic_number, none, width_bytes}

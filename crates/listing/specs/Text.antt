@@ -1,8 +1,7 @@
 -- Rule 8.3: text as bytes of ASCII, what stands between quotes, and decimal numbers.
-use Rattle.std.specs.Prelude.{ℕ, zero, suc, ◌+◌, ◌/◌, ◌%◌, List, [], ◌∷◌, ◌++◌, ltb}
+use Rattle.std.specs.Prelude.{ℕ, zero, suc, ◌+◌, ◌/◌, ◌%◌, List, [], ◌∷◌, ◌++◌, ltb, if◌then◌else◌}
 use Prim.Native.Char.{code}
 use Prim.Native.String.{String, [] as end, ◌∷◌ as ◌then◌}
-use Rattle.seq.specs.Choice.{if◌then◌else◌}
 
 abbrev pub ascii : String → List ℕ
 ascii end = []

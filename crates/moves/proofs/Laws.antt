@@ -1,6 +1,7 @@
 -- The laws of what a step moves, rules 4.12 to 4.16: it changes its destination alone, and clears what is above the width; an element that the mask
 -- does not let through stays, or is cleared; unmasked, the old destination does not matter; mask bits past the last element do not matter. And it
 -- moves entries whatever they stand for, which rule 7.4 needs.
+use Rattle.std.specs.Prelude.{if◌then◌else◌}
 use Prim.Native.Nat.{ℕ, ◌+◌, ◌-◌, ◌*◌, ◌/◌, ◌%◌, ◌^◌, ◌<◌, ◌≤◌}
 use mathlib.Core.Path.{◌≡◌, refl, sym, ◌∙◌, ap}
 use mathlib.Core.Bool.{Bool, true, false}
@@ -10,7 +11,6 @@ use native.Mathlib.Nat.{div-add-mod, div-le_self, mul-div-le}
 use lib.Dec.{eqb, leb}
 use lib.ListN.{length, get_or, take, drop, length-map, get_or-map, get_or-eq_default}
 use borrow.Author.Tests.{le-leb, lt-leb, eq-eqb, eqb-false}
-use Rattle.seq.specs.Choice.{if◌then◌else◌}
 use Rattle.seq.proofs.Choice.{of_either, both_true}
 use Rattle.seq.proofs.Tabulate.{by_lt, length_tabulate, get_d_tabulate, tabulate_ext, map_tabulate}
 use Rattle.seq.proofs.Parts.{map_take, map_drop, part_same, at_every}

@@ -1,5 +1,6 @@
 -- A register in a file: its entries as a part of the file; and a file with 64 new entries in one register, which of its entries are new, which are the
 -- old ones, and when two such files are equal.
+use Rattle.std.specs.Prelude.{if◌then◌else◌}
 use Prim.Native.Nat.{ℕ, ◌+◌, ◌*◌, ◌/◌, ◌%◌, ◌<◌, ◌≤◌}
 use mathlib.Core.Path.{◌≡◌, ap}
 use mathlib.Core.List.{List}
@@ -8,7 +9,6 @@ use lib.Dec.{eqb}
 use lib.ListN.{length, get_or, take, drop, length-drop}
 use lib.Seq.{length-take-le, get_or-take, get_or-drop}
 use borrow.Author.Tests.{eq-eqb, ne_eqb}
-use Rattle.seq.specs.Choice.{if◌then◌else◌}
 use Rattle.seq.specs.Tabulate.{tabulate}
 use Rattle.seq.proofs.Tabulate.{tabulate_ext, upto, upto_start, upto_end}
 use Rattle.isa.specs.Kinds.{file_size, register_bytes, offset_of}

@@ -1,4 +1,5 @@
 -- What each function on moves gives, by what its callees gave: a rule for each way it can return.
+use Rattle.std.specs.Prelude.{if◌then◌else◌}
 use Prim.Native.Nat.{ℕ, suc, ◌+◌, ◌-◌, ◌*◌, ◌/◌, ◌%◌, ◌^◌, ◌<◌, ◌≤◌}
 use mathlib.Core.Path.{◌≡◌, refl, ◌∙◌, sym}
 use mathlib.Core.Bool.{Bool}
@@ -9,7 +10,6 @@ use lib.Dec.{eqb, leb}
 use lib.ListN.{get_or}
 use lib.Pow.{pow_mono}
 use borrow.Author.Tests.{eq-eqb, ne_eqb}
-use Rattle.seq.specs.Choice.{if◌then◌else◌}
 use Rattle.isa.specs.Kinds.{reg_of}
 use Rattle.isa.specs.Operands.{width_bytes, element_bytes, digit_bits}
 use Rattle.isa.specs.declared.kinds.Reg.{Reg}

@@ -1,5 +1,6 @@
 -- Rules 4.6 to 4.10 and 4.17 as the manual has them, a sentence for each instruction: its move at its own element's size. And no pick of an accepted
 -- instruction leaves the elements of its sources.
+use Rattle.std.specs.Prelude.{if◌then◌else◌}
 use Prim.Native.Nat.{ℕ, zero, suc, ◌+◌, ◌-◌, ◌*◌, ◌/◌, ◌%◌, ◌^◌, ◌<◌, ◌≤◌, ◌∣◌}
 use mathlib.Core.Path.{◌≡◌, refl, ◌∙◌, ap}
 use native.Mathlib.Omega.{arith}
@@ -7,7 +8,6 @@ use native.Mathlib.Nat.{div-add-mod, mod-lt, mod-le, mod-eq_of_lt, mul-add-mod_s
 use lib.Dec.{eqb, leb}
 use lib.Pow.{pow_pos}
 use borrow.Author.Tests.{eq-eqb, ne_eqb}
-use Rattle.seq.specs.Choice.{if◌then◌else◌}
 use Rattle.seq.proofs.Choice.{of_either}
 use Rattle.isa.specs.Operands.{width_bytes, element_bytes, digit_bits}
 use Rattle.isa.specs.declared.operands.Width.TheVariants.{Bits128}

@@ -1,7 +1,6 @@
 -- Rules 4.1 to 4.3 and 4.16: all that a register file holds after a step. The entries of the file are bytes, whose zero is 0; the same is said
 -- here of entries of any type A with a zero z of their own, since a byte map's entries move as bytes do. `byte` reads an entry as a control.
-use Rattle.std.specs.Prelude.{ℕ, ◌+◌, ◌*◌, ◌/◌, ◌%◌, List, eqb, length, get_or, take, drop}
-use Rattle.seq.specs.Choice.{if◌then◌else◌}
+use Rattle.std.specs.Prelude.{ℕ, ◌+◌, ◌*◌, ◌/◌, ◌%◌, List, eqb, length, get_or, take, drop, if◌then◌else◌}
 use Rattle.seq.specs.Tabulate.{tabulate}
 use Rattle.isa.specs.Kinds.{registers, register_bytes, offset_of}
 use Rattle.isa.specs.Operands.{element_bytes}

@@ -1,6 +1,5 @@
 -- Rules 4.12 to 4.15: masks and width. Where element j of the destination comes from.
-use Rattle.std.specs.Prelude.{ℕ, ◌-◌, ◌*◌, ◌/◌, ◌%◌, ◌^◌, Bool, List, eqb, leb, get_or}
-use Rattle.seq.specs.Choice.{if◌then◌else◌}
+use Rattle.std.specs.Prelude.{ℕ, ◌-◌, ◌*◌, ◌/◌, ◌%◌, ◌^◌, Bool, List, eqb, leb, get_or, if◌then◌else◌}
 use Rattle.isa.specs.Operands.{width_bytes, element_bytes}
 use Rattle.isa.specs.declared.kinds.Mask.{Mask}
 use Rattle.isa.specs.declared.operands.Move.{Move}

@@ -1,7 +1,6 @@
 -- Rules 4.5 to 4.10 and 4.17: for each kind of move, which element of its sources element j of a full result is, for a control c. An element has n bytes,
 -- a lane 16, the vector v.
-use Rattle.std.specs.Prelude.{ℕ, ◌+◌, ◌-◌, ◌*◌, ◌/◌, ◌%◌, ◌^◌, List, [], ◌∷◌, eqb}
-use Rattle.seq.specs.Choice.{if◌then◌else◌}
+use Rattle.std.specs.Prelude.{ℕ, ◌+◌, ◌-◌, ◌*◌, ◌/◌, ◌%◌, ◌^◌, List, [], ◌∷◌, eqb, if◌then◌else◌}
 use Rattle.isa.specs.Operands.{width_bytes, digit_bits}
 use Rattle.isa.specs.declared.operands.Half.{Half}
 use Rattle.isa.specs.declared.operands.Half.TheVariants.{Low, High}

@@ -1,8 +1,8 @@
 -- The order of answers that runs share with byte maps and listings: the sizes and features, then one more test, then the work. A refusal keeps what was
 -- there.
+use Rattle.std.specs.Prelude.{if◌then◌else◌}
 use mathlib.Core.Path.{◌≡◌}
 use mathlib.Core.Bool.{Bool, true, false}
-use Rattle.seq.specs.Choice.{if◌then◌else◌}
 
 -- the tests, what each answers where it fails, and what there is in a buffer
 pub record Order (A B : Type 0) : Type 0 where

@@ -1,7 +1,6 @@
 -- Section 6 of the rules: runs by their numbers, proved by computing. The list is VPSHUFD (5 bytes), VUNPCKLPS (4 bytes) and a VPSHUFD that wants
 -- memory; it is run under each budget, and cut off within an instruction and behind one. Then the order of answers 1 and 8 and the steps, and the sets of features.
-use Rattle.std.specs.Prelude.{ℕ, ◌*◌, ◌≡◌, refl, List, [], ◌∷◌, map, replicate, take}
-use Rattle.seq.specs.Choice.{if◌then◌else◌}
+use Rattle.std.specs.Prelude.{ℕ, ◌*◌, ◌≡◌, refl, List, [], ◌∷◌, map, replicate, take, if◌then◌else◌}
 use Rattle.seq.specs.Tabulate.{tabulate}
 use Rattle.isa.specs.Kinds.{code_limit}
 use Rattle.isa.specs.Features.{has_feature}

@@ -1,7 +1,7 @@
 -- Rules 6.2 to 6.6: running a list. The steps, the place and the answer are those of the list's split under the budget, and the file after them is
 -- what those steps give, each on the file that the one before it left.
-use Rattle.std.specs.Prelude.{ℕ, Bool, List, [], ◌∷◌, eqb, leb, length}
-use Rattle.seq.specs.Choice.{if◌then◌else◌, both}
+use Rattle.std.specs.Prelude.{ℕ, Bool, List, [], ◌∷◌, eqb, leb, length, if◌then◌else◌}
+use Rattle.seq.specs.Choice.{both}
 use Rattle.isa.specs.Kinds.{code_limit}
 use Rattle.isa.specs.Features.{features_known}
 use Rattle.isa.specs.declared.refusal.Refusal.{Refusal}

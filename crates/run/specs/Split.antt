@@ -1,7 +1,6 @@
 -- Rules 6.1, 6.3 and 6.4: a list is instructions one behind the other. Its split is as many of them as there is fuel for, with the place where they
 -- end and the answer: the end, or the fuel, was reached, or the next step is refused.
-use Rattle.std.specs.Prelude.{ℕ, zero, suc, ◌+◌, Bool, List, [], ◌∷◌, eqb, length, drop}
-use Rattle.seq.specs.Choice.{if◌then◌else◌}
+use Rattle.std.specs.Prelude.{ℕ, zero, suc, ◌+◌, Bool, List, [], ◌∷◌, eqb, length, drop, if◌then◌else◌}
 use Rattle.isa.specs.declared.refusal.Refusal.{Refusal}
 use Rattle.decode.specs.Decode.{decode_of}
 use Rattle.decode.specs.declared.instruction.Instruction.{Instruction}

@@ -1,11 +1,11 @@
 -- What `search` is handed where a definition goes by tests: each rule takes a value through one choice, by the test that the code made. The
 -- code's test is the definition's own, or it is of a number or a flag k that a callee ensured to be the definition's (`via-`, `flag-`).
+use Rattle.std.specs.Prelude.{if◌then◌else◌}
 use mathlib.Core.Path.{◌≡◌, ◌∙◌, sym}
 use mathlib.Core.Bool.{Bool, true, false, not}
 use Prim.Native.Nat.{ℕ, ◌≤◌, ◌<◌}
 use lib.Dec.{eqb, leb, ltb}
 use borrow.Author.Tests.{eq-eqb, ne_eqb, lt-ltb, le-ltb, le-leb, lt-leb}
-use Rattle.seq.specs.Choice.{if◌then◌else◌}
 
 module _ (A : Type 0) (x y r : A) where
   pub is_true : (t : Bool) → t ≡ true → r ≡ x → r ≡ (if t then x else y)

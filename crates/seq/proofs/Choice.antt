@@ -1,9 +1,10 @@
 -- What a choice that came out as r says of its test, where one of its sides cannot be r.
+use Rattle.std.specs.Prelude.{if◌then◌else◌}
 use Prim.Native.Nat.{ℕ}
 use mathlib.Core.Path.{◌≡◌, refl}
 use mathlib.Core.Bool.{Bool, true, false}
 use native.Mathlib.Omega.{arith}
-use Rattle.seq.specs.Choice.{if◌then◌else◌, both}
+use Rattle.seq.specs.Choice.{both}
 
 pub took_first : {A : Type 0} (t : Bool) (x y r : A) → (y ≡ r → ⊥) → (if t then x else y) ≡ r → (t ≡ true) × (x ≡ r)
 took_first true x y r nay e = (refl, e)

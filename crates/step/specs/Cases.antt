@@ -1,7 +1,6 @@
 -- The bytes moved in the worked cases of docs/RULES.md. A case that names places: for every register file and all masks, each of the destination's 64
 -- bytes is the file's byte at the place that the case names, or zero. Then cases on one file: controls in registers and in memory, masks, a broadcast.
-use Rattle.std.specs.Prelude.{ℕ, ◌+◌, ◌*◌, ◌<◌, ◌≡◌, List, [], ◌∷◌, ◌++◌, eqb, length, get_or, replicate}
-use Rattle.seq.specs.Choice.{if◌then◌else◌}
+use Rattle.std.specs.Prelude.{ℕ, ◌+◌, ◌*◌, ◌<◌, ◌≡◌, List, [], ◌∷◌, ◌++◌, eqb, length, get_or, replicate, if◌then◌else◌}
 use Rattle.seq.specs.Tabulate.{tabulate}
 use Rattle.isa.specs.Kinds.{file_size, mask_count, register_bytes, zero_entry}
 use Rattle.isa.specs.Features.{all_features}

@@ -1,5 +1,6 @@
 -- Rules 5.14 and 5.15, and request 6: every call that takes features answers 1 exactly if a size is wrong or the set of features does not pass, whatever
 -- the code is. For decoding that is `one-for-the-features`.
+use Rattle.std.specs.Prelude.{if◌then◌else◌}
 use Prim.Native.Nat.{ℕ, ◌+◌}
 use mathlib.Core.Path.{◌≡◌, refl, ◌∙◌, sym, ap}
 use mathlib.Core.Bool.{Bool, true, false}
@@ -8,7 +9,7 @@ use mathlib.Core.Logic.{◌↔◌}
 use native.Mathlib.Omega.{arith}
 use lib.Dec.{eqb, leb}
 use lib.ListN.{length}
-use Rattle.seq.specs.Choice.{if◌then◌else◌, both}
+use Rattle.seq.specs.Choice.{both}
 use Rattle.seq.proofs.Choice.{of_either, both_true}
 use Rattle.isa.specs.Kinds.{mask_count, map_entries, code_limit}
 use Rattle.isa.specs.Features.{features_known}

@@ -1,12 +1,13 @@
 -- Rule 5.11 as C sees it (request 3): a status 4 has a reason from 1 to 6, and no other status has one. The reason is the number of the first wrong
 -- field of the bytes that were refused: those that are decoded, stepped or asked for an address, and those from the place on where a list is run or mapped.
+use Rattle.std.specs.Prelude.{if◌then◌else◌}
 use Prim.Native.Nat.{ℕ, ◌+◌}
 use mathlib.Core.Path.{◌≡◌, refl, ◌∙◌, sym, ap}
 use mathlib.Core.List.{List}
 use native.Mathlib.Omega.{arith}
 use lib.Dec.{eqb, leb}
 use lib.ListN.{length, drop}
-use Rattle.seq.specs.Choice.{if◌then◌else◌, both}
+use Rattle.seq.specs.Choice.{both}
 use Rattle.seq.proofs.Choice.{of_either}
 use Rattle.isa.specs.Kinds.{code_limit}
 use Rattle.isa.specs.Features.{features_known}

@@ -1,7 +1,6 @@
 -- Rule 5.12: a decoding as the C interface gives it, the answer's number (rule 5.1) and the operands as numbers. A refusal has its answer alone, and
 -- with 4 the number of the wrong field (rule 5.11, request 3).
-use Rattle.std.specs.Prelude.{ℕ, ◌*◌, Bool}
-use Rattle.seq.specs.Choice.{if◌then◌else◌}
+use Rattle.std.specs.Prelude.{ℕ, ◌*◌, Bool, if◌then◌else◌}
 use Rattle.isa.specs.Operands.{mnemonic_number, width_bytes}
 use Rattle.isa.specs.Refusal.{status_of, reason_of}
 use Rattle.isa.specs.declared.operands.Encoding.{Encoding}

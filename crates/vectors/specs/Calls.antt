@@ -1,6 +1,5 @@
 -- The line that an input of each entry point gives. docs/VECTORS.md has the fields of its record r.
-use Rattle.std.specs.Prelude.{ℕ, ◌+◌, ◌-◌, ◌*◌, List, [], ◌∷◌, ◌++◌, ltb, length, take, drop, set}
-use Rattle.seq.specs.Choice.{if◌then◌else◌}
+use Rattle.std.specs.Prelude.{ℕ, ◌+◌, ◌-◌, ◌*◌, List, [], ◌∷◌, ◌++◌, ltb, length, take, drop, set, if◌then◌else◌}
 use Rattle.decode.specs.Decode.{decode_of}
 use Rattle.step.specs.Step.{step_of, file_after}
 use Rattle.run.specs.Run.{run_of, file_after_run}
