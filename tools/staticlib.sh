@@ -10,6 +10,7 @@ if ! command -v rt >/dev/null; then
     echo "tools/staticlib.sh: \`rt\` of the Rattle kit is not on the PATH" >&2
     exit 1
 fi
-(cd crates/tarhuspo_c && rt lib)
+# For every x86-64: the kit's default is x86-64-v2.
+(cd crates/tarhuspo_c && rt lib --cpu=x86-64)
 mkdir -p "$(dirname "$archive")"
 cp crates/tarhuspo_c/out/libtarhuspo_c.a "$archive"
