@@ -11,13 +11,12 @@ use Rattle.decode.proofs.Laws.{headed, taken, length_is, disp_same, Agree, accep
 use Rattle.decode.specs.declared.prefix.Prefix.{Prefix}
 use Rattle.decode.specs.declared.instruction.Third.{Third}
 use Rattle.decode.specs.declared.instruction.Instruction.{Instruction}
-use Rattle.decode.specs.declared.instruction.Decoded.{Decoded}
 use Rattle.address.specs.Displacement.{wrapped, unit_of, displacement_of}
 use Rattle.address.specs.Operand.{gpr_of, is_no_base, base_of, scale_of, index_of, operand_of}
 use Rattle.address.specs.Address.{located_of, address_of}
 use Rattle.address.specs.declared.operand.Base.{Base}
-use Rattle.address.specs.declared.operand.Index.{Index}
 use Rattle.address.specs.declared.operand.Operand.{Operand}
+use Rattle.std.proofs.Common.{Ok, Some, None}
 
 -- ---- a memory form looks at the SIB byte only where there is one
 
@@ -28,7 +27,7 @@ no_memory false a b bytes p q e = q e
 memory_mode : (row : Row) (f : Prefix) (m bytes : ℕ) → third_of row f m ≡ Third.Memory bytes → m / 64 ≡ 3 → ⊥
 unfolding third_of
 memory_mode row f m bytes e h =
-    no_memory (eqb f.encoding under_vex) _ _ bytes
+    no_memory (under_vex f.encoding) _ _ bytes
     (λ g. let z : ◌≡◌ {A = ℕ} 0 1 = cc in omega arith) (λ g. let z : ◌≡◌ {A = ℕ} 0 1 = cc in omega arith) (rw (eq-eqb (m / 64) 3 h) at e)
 
 a_sib : (m : ℕ) → (m / 64 ≡ 3 → ⊥) → m % 8 ≡ 4 → 1 ≤ sib_size m
@@ -70,11 +69,11 @@ parts_by_is x code f m s p q r = rw (p, q, r)
 module _ (f : Prefix) (m s s' : ℕ) (mode : m / 64 ≡ 3 → ⊥) (h : 1 ≤ sib_size m → s ≡ s') where
   same_base : base_of f m s ≡ base_of f m s'
   unfolding base_of
-  same_base = by_sib m s s' (λ k. if is_no_base m k then Base.Absent else Base.Register (gpr_of f.b k)) _ mode h
+  same_base = by_sib m s s' (λ k. if is_no_base m k then None else Some (Base.Register (gpr_of f.b k))) _ mode h
 
   same_index : index_of f m s ≡ index_of f m s'
   unfolding index_of
-  same_index = by_sib m s s' (λ k. if eqb (gpr_of f.x (k / 8)).0 4 then Index.Absent else Index.Register (gpr_of f.x (k / 8)) (scale_of k)) _ mode h
+  same_index = by_sib m s s' (λ k. if eqb (gpr_of f.x (k / 8)).0 4 then None else Some (record { register = gpr_of f.x (k / 8); scale = scale_of k })) _ mode h
 
   same_parts : (x : Instruction) (xs zs : List ℕ) → ((i : ℕ) → i < f.size + 2 + sib_size m + displacement_size m s → get_or xs i 0 ≡ get_or zs i 0) → parts_by x xs f m s ≡ parts_by x zs f m s'
   same_parts x xs zs same =
@@ -83,7 +82,7 @@ module _ (f : Prefix) (m s s' : ℕ) (mode : m / 64 ≡ 3 → ⊥) (h : 1 ≤ si
 
 -- ---- so other bytes behind it change nothing
 
-module _ (xs zs : List ℕ) (features : ℕ) (x : Instruction) (e : decode_of xs features ≡ Decoded.Accepted x) (a : Agree x.length xs zs) where
+module _ (xs zs : List ℕ) (features : ℕ) (x : Instruction) (e : decode_of xs features ≡ Ok x) (a : Agree x.length xs zs) where
   same_operand : (bytes : ℕ) → x.third ≡ Third.Memory bytes → operand_of x xs ≡ operand_of x zs
   unfolding instruction_of
   same_operand bytes p =
@@ -111,7 +110,7 @@ module _ (xs zs : List ℕ) (features : ℕ) (x : Instruction) (e : decode_of xs
   address_same registers at = rw (e, accepted_same xs zs features x e a, same_located x.third refl registers (wrapped (at + x.length)))
 
 -- it is the same with any bytes after it
-pub address_append : (xs ys : List ℕ) (features : ℕ) (x : Instruction) → decode_of xs features ≡ Decoded.Accepted x
+pub address_append : (xs ys : List ℕ) (features : ℕ) (x : Instruction) → decode_of xs features ≡ Ok x
     → (registers : List ℕ) (at : ℕ) → address_of xs features registers at ≡ address_of (xs ++ ys) features registers at
 address_append xs ys features x e =
     address_same xs (xs ++ ys) features x e (behind xs ys x.length (accepted_size xs features x e).fits)

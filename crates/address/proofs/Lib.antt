@@ -1,5 +1,4 @@
 -- The rules that the proofs hand to `search`, and the laws of addresses.
 mod Sums
-mod Compose
 pub mod Laws
 pub mod Bytes

@@ -3,7 +3,7 @@
 use Rattle.std.specs.Prelude.{◌≡◌, ℕ, ◌+◌, ◌-◌, ◌*◌, ◌/◌, ◌%◌, ◌^◌, List, [], ◌∷◌, map, replicate, ◌==◌, nat_eq, refl, if◌then◌else◌}
 use Rattle.seq.specs.Tabulate.{tabulate}
 use Rattle.isa.specs.Features.{all_features, has_feature}
-use Rattle.isa.specs.Operands.{width_of, element_of, digits_of, half_of, move_from, control_of}
+use Rattle.isa.specs.Operands.{width_of}
 use Rattle.isa.specs.Table.{rows, find_in, matches_row, matches_w}
 use Rattle.isa.specs.declared.refusal.Field.TheVariants.{Vvvv}
 use Rattle.isa.specs.declared.refusal.Refusal.{Refusal}
@@ -11,22 +11,22 @@ use Rattle.isa.specs.declared.refusal.Refusal.TheVariants.{Argument, Truncated, 
 use Rattle.decode.specs.Prefix.{prefix_size, prefix_of, fixed_bits, head_of}
 use Rattle.decode.specs.Modrm.{sib_size, displacement_size}
 use Rattle.decode.specs.Reserved.{wrong_w, wrong_width, wrong_vvvv, wrong_broadcast, wrong_zeroing, check_of, needed_of, enough_of}
-use Rattle.decode.specs.Instruction.{encoding_of, first_of, third_of, immediate_of, instruction_of}
+use Rattle.decode.specs.Instruction.{first_of, third_of, immediate_of, instruction_of}
 use Rattle.decode.specs.Decode.{finish_of, on_total, on_row, on_head, known_of, decode_of}
 use Rattle.address.specs.Displacement.{signed_of, displacement_of}
 use Rattle.address.specs.Operand.{base_of, index_of, scale_of, operand_of}
 use Rattle.address.specs.Address.{address_of}
-use Rattle.address.specs.declared.Addressed.{Addressed}
+use Rattle.std.specs.Prelude.{Option, Some, None, Result, Ok, Err}
 
 pub record Example : Type 0 where
   pub bytes : List ℕ
-  pub gives : Addressed
+  pub gives : Result (Option ℕ) Refusal
 
 abbrev pub at : List ℕ → ℕ → Example
-at bytes address = record { bytes = bytes; gives = Addressed.At address }
+at bytes address = record { bytes = bytes; gives = Ok (Some address) }
 
 abbrev pub nowhere : List ℕ → Example
-nowhere bytes = record { bytes = bytes; gives = Addressed.Nowhere }
+nowhere bytes = record { bytes = bytes; gives = (Ok None) }
 
 abbrev pub registers : List ℕ
 registers = tabulate 16 (λ k. 65536 * 2 ^ k)
@@ -179,7 +179,7 @@ turns =
 -- ---- rule 10.1: the answers
 
 abbrev pub refused : List ℕ → Refusal → Example
-refused bytes why = record { bytes = bytes; gives = Addressed.Refused why }
+refused bytes why = record { bytes = bytes; gives = Err why }
 
 -- register forms under VEX and EVEX; then decoding's refusals: cut off before the displacement, no row, a wrong field
 unfoldable pub others : List Example
@@ -195,46 +195,46 @@ others =
 -- ---- all of them, computed
 
 -- with what each register holds, and where the instruction stands
-abbrev pub answered : List ℕ → ℕ → List Example → List Addressed
+abbrev pub answered : List ℕ → ℕ → List Example → List (Result (Option ℕ) Refusal)
 answered values here = map (λ (e : Example). address_of e.bytes all_features values here)
 
-abbrev pub expected : List Example → List Addressed
+abbrev pub expected : List Example → List (Result (Option ℕ) Refusal)
 expected = map (λ (e : Example). e.gives)
 
 abbrev pub all : ℕ → List ℕ
 all value = replicate 16 value
 
 -- sixteen pairs of encodings, and what both of each give
-abbrev pub places : (ℕ → List (List ℕ)) → List (List Addressed)
+abbrev pub places : (ℕ → List (List ℕ)) → List (List (Result (Option ℕ) Refusal))
 places codes = tabulate 16 (λ k. map (λ (code : List ℕ). address_of code all_features registers place) (codes k))
 
-abbrev pub pairs : (ℕ → ℕ) → List (List Addressed)
-pairs value = tabulate 16 (λ k. Addressed.At (value k) ∷ Addressed.At (value k) ∷ [])
+abbrev pub pairs : (ℕ → ℕ) → List (List (Result (Option ℕ) Refusal))
+pairs value = tabulate 16 (λ k. Ok (Some (value k)) ∷ Ok (Some (value k)) ∷ [])
 
 pub record Examples : Type 0 where
   pub displaced : answered (all 0) place displacements ≡ expected displacements
   pub based : answered registers place bases ≡ expected bases
   pub indexed : answered registers place indexes ≡ expected indexes
   pub without_a_base : answered registers place baseless ≡ expected baseless
-  pub every_mode : tabulate 24 (λ k. address_of (with_zeros (64 * (k / 8) + 8 + k % 8) 0) all_features registers place) ≡ map Addressed.At modes
-  pub every_sib_mode : tabulate 24 (λ k. address_of (with_zeros (64 * (k / 8) + 12) (0x20 + k % 8)) all_features registers place) ≡ map Addressed.At sib_modes
-  pub every_scale : tabulate 32 (λ k. address_of (with_zeros 12 (8 * k)) all_features registers place) ≡ tabulate 32 (λ k. Addressed.At (scaled k))
+  pub every_mode : tabulate 24 (λ k. address_of (with_zeros (64 * (k / 8) + 8 + k % 8) 0) all_features registers place) ≡ map (λ a. Ok (Some a)) modes
+  pub every_sib_mode : tabulate 24 (λ k. address_of (with_zeros (64 * (k / 8) + 12) (0x20 + k % 8)) all_features registers place) ≡ map (λ a. Ok (Some a)) sib_modes
+  pub every_scale : tabulate 32 (λ k. address_of (with_zeros 12 (8 * k)) all_features registers place) ≡ tabulate 32 (λ k. Ok (Some (scaled k)))
   pub every_base : places with_base ≡ pairs held
   pub every_index : places with_index ≡ pairs (λ k. if k == 4 then 0 else held k)
   pub wrapping : answered (all (2 ^ 64 - 1)) place wraps ≡ expected wraps
   -- an instruction beyond 32 bits
-  pub far : address_of (0xC5 ∷ 0xF9 ∷ 0x70 ∷ 0x0D ∷ 0xFF ∷ 0xFF ∷ 0xFF ∷ 0xFF ∷ 0x1B ∷ []) all_features registers 0x123456789ABC ≡ Addressed.At (0x123456789ABC + 8)
+  pub far : address_of (0xC5 ∷ 0xF9 ∷ 0x70 ∷ 0x0D ∷ 0xFF ∷ 0xFF ∷ 0xFF ∷ 0xFF ∷ 0x1B ∷ []) all_features registers 0x123456789ABC ≡ Ok (Some (0x123456789ABC + 8))
   pub turning : answered registers (2 ^ 64 - 4) turns ≡ expected turns
   pub otherwise : answered registers place others ≡ expected others
   -- other than sixteen registers, features over the limit, and all features but AVX (request 6), before anything else; a missing feature last
-  pub fifteen : address_of [] all_features (replicate 15 0) 0 ≡ Addressed.Refused Argument
-  pub seventeen : address_of (0xC5 ∷ 0xF9 ∷ 0x70 ∷ 0xCA ∷ 0x1B ∷ []) all_features (replicate 17 0) 0 ≡ Addressed.Refused Argument
-  pub features : address_of [] 64 (all 0) 0 ≡ Addressed.Refused Argument
-  pub without_avx : address_of (0xC5 ∷ 0xF9 ∷ 0x70 ∷ 0x48 ∷ 0x80 ∷ 0x1B ∷ []) 62 (all 0) 0 ≡ Addressed.Refused Argument
-  pub missing : address_of (0xC5 ∷ 0xF9 ∷ 0x70 ∷ 0x48 ∷ 0x80 ∷ 0x1B ∷ []) 0 (all 0) 0 ≡ Addressed.Refused Feature
+  pub fifteen : address_of [] all_features (replicate 15 0) 0 ≡ Err Argument
+  pub seventeen : address_of (0xC5 ∷ 0xF9 ∷ 0x70 ∷ 0xCA ∷ 0x1B ∷ []) all_features (replicate 17 0) 0 ≡ Err Argument
+  pub features : address_of [] 64 (all 0) 0 ≡ Err Argument
+  pub without_avx : address_of (0xC5 ∷ 0xF9 ∷ 0x70 ∷ 0x48 ∷ 0x80 ∷ 0x1B ∷ []) 62 (all 0) 0 ≡ Err Argument
+  pub missing : address_of (0xC5 ∷ 0xF9 ∷ 0x70 ∷ 0x48 ∷ 0x80 ∷ 0x1B ∷ []) 0 (all 0) 0 ≡ Err Feature
 
 pub examples : Examples
-unfolding displacements bases indexes baseless wraps turns others tabulate address_of operand_of displacement_of signed_of base_of index_of scale_of decode_of known_of on_head on_row on_total finish_of head_of prefix_size prefix_of fixed_bits rows find_in matches_row matches_w sib_size displacement_size check_of wrong_w wrong_width wrong_vvvv wrong_broadcast wrong_zeroing enough_of needed_of has_feature instruction_of encoding_of first_of third_of immediate_of width_of element_of digits_of half_of move_from control_of
+unfolding displacements bases indexes baseless wraps turns others tabulate address_of operand_of displacement_of signed_of base_of index_of scale_of decode_of known_of on_head on_row on_total finish_of head_of prefix_size prefix_of fixed_bits rows find_in matches_row matches_w sib_size displacement_size check_of wrong_w wrong_width wrong_vvvv wrong_broadcast wrong_zeroing enough_of needed_of has_feature instruction_of first_of third_of immediate_of width_of
 examples =
     record {
       displaced = refl;

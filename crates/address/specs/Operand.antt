@@ -1,6 +1,6 @@
 -- Rules 10.2 to 10.5 (request 4): what the address of a memory form is made of. f is its prefix, m its ModRM byte, s the byte behind that, which is
 -- the SIB byte if rm is 4.
-use Rattle.std.specs.Prelude.{ℕ, ◌+◌, ◌*◌, ◌/◌, ◌%◌, Bool, List, ◌==◌, nat_eq, slice_index_or, if◌then◌else◌}
+use Rattle.std.specs.Prelude.{ℕ, Option, Some, None, ◌+◌, ◌*◌, ◌/◌, ◌%◌, Bool, List, ◌==◌, nat_eq, slice_index_or, if◌then◌else◌}
 use Rattle.seq.specs.Choice.{both}
 use Rattle.decode.specs.Modrm.{sib_size, displacement_size}
 use Rattle.decode.specs.Fields.{prefix_in}
@@ -25,11 +25,11 @@ abbrev pub is_no_base : ℕ → ℕ → Bool
 is_no_base m low = both (m / 64 == 0) (low % 8 == 5)
 
 -- rule 10.3: B.base with a SIB, else B.rm; in place of rm 5 with mod 0 the address of the next instruction
-unfoldable pub base_of : Prefix → ℕ → ℕ → Base
+unfoldable pub base_of : Prefix → ℕ → ℕ → Option Base
 base_of f m s =
-    if m % 8 == 4 then (if is_no_base m s then Base.Absent else Base.Register (gpr_of f.b s))
-    else if is_no_base m m then Base.Next
-    else Base.Register (gpr_of f.b m)
+    if m % 8 == 4 then (if is_no_base m s then None else Some (Base.Register (gpr_of f.b s)))
+    else if is_no_base m m then Some Base.Next
+    else Some (Base.Register (gpr_of f.b m))
 
 -- rule 10.5: SIB bits 7:6 are the scale
 unfoldable pub scale_of : ℕ → Scale
@@ -42,10 +42,10 @@ factor_of Scale.Four = 4
 factor_of Scale.Eight = 8
 
 -- rule 10.4: X.index, where there is a SIB. Number 4, which would be rsp, is no index
-unfoldable pub index_of : Prefix → ℕ → ℕ → Index
+unfoldable pub index_of : Prefix → ℕ → ℕ → Option Index
 index_of f m s =
-    if m % 8 == 4 then (if nat_eq (gpr_of f.x (s / 8)).0 4 then Index.Absent else Index.Register (gpr_of f.x (s / 8)) (scale_of s))
-    else Index.Absent
+    if m % 8 == 4 then (if nat_eq (gpr_of f.x (s / 8)).0 4 then None else Some (record { register = gpr_of f.x (s / 8); scale = scale_of s }))
+    else None
 
 -- the parts together. The displacement stands behind ModRM and SIB
 unfoldable pub operand_of : Instruction → List ℕ → Operand

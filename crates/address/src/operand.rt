@@ -12,7 +12,8 @@ use decode::prefix::Prefix;
 use seq::byte_at;
 
 // A general register's number, in the order of the encoding: rax, rcx, rdx, rbx, rsp, rbp, rsi, rdi, r8 to r15. No other
-// crate can make one out of range.
+// crate can make one out of range. A type of its own and not one with isa's, as theirs are two (`Reg`, `Mask`): one high bit and three low
+// ones make it.
 #[derive(Clone, Copy)]
 pub struct Gpr(u8);
 
@@ -36,12 +37,7 @@ impl Gpr {
     pub fn value(self, registers: &[u64]) -> u64
         ensures { result ≡ value_in registers.now self }
     {
-        let at = self.0 as usize;
-        if at < registers.len() {
-            registers[at]
-        } else {
-            0
-        }
+        registers.get(self.0 as usize).copied().unwrap_or(0)
     }
 }
 
@@ -50,7 +46,6 @@ pub enum Base {
     Register(Gpr),
     // The next instruction's address.
     Next,
-    Absent,
 }
 
 #[derive(Clone, Copy)]
@@ -62,20 +57,17 @@ pub enum Scale {
 }
 
 impl Scale {
+    // By bits 7:6 of a SIB byte, and so no From of a scale's number.
+    #[tactic(auto, unfolding(crate::specs::Operand::scale_of))]
     pub fn of(sib: u8) -> Scale
         ensures { result ≡ scale_of sib }
     {
-        let bits = sib / 64;
-        if bits == 0 {
-            return Scale::One;
+        match sib / 64 {
+            0 => Scale::One,
+            1 => Scale::Two,
+            2 => Scale::Four,
+            _ => Scale::Eight,
         }
-        if bits == 1 {
-            return Scale::Two;
-        }
-        if bits == 2 {
-            return Scale::Four;
-        }
-        Scale::Eight
     }
 
     // A shift loses what it moves out at the top.
@@ -92,15 +84,15 @@ impl Scale {
 }
 
 #[derive(Clone, Copy)]
-pub enum Index {
-    Register(Gpr, Scale),
-    Absent,
+pub struct Index {
+    pub register: Gpr,
+    pub scale: Scale,
 }
 
 #[derive(Clone, Copy)]
 pub struct Operand {
-    pub base: Base,
-    pub index: Index,
+    pub base: Option<Base>,
+    pub index: Option<Index>,
     // Modulo 2^64, and multiplied.
     pub displacement: u64,
 }
@@ -108,43 +100,38 @@ pub struct Operand {
 fn is_no_base(modrm: u8, low: u8) -> bool
     ensures { result ≡ is_no_base modrm low }
 {
-    let mode = modrm / 64;
-    if mode != 0 {
-        return false;
-    }
-    low % 8 == 5
+    modrm / 64 == 0 && low % 8 == 5
 }
 
-fn base_of(prefix: Prefix, modrm: u8, sib: u8) -> Base
+#[tactic(auto, unfolding(crate::specs::Operand::base_of))]
+fn base_of(prefix: Prefix, modrm: u8, sib: u8) -> Option<Base>
     ensures { result ≡ base_of prefix modrm sib }
 {
-    let rm = modrm % 8;
-    if rm == 4 {
+    if modrm % 8 == 4 {
         if is_no_base(modrm, sib) {
-            return Base::Absent;
+            return None;
         }
-        return Base::Register(Gpr::of(prefix.b, sib));
+        return Some(Base::Register(Gpr::of(prefix.b, sib)));
     }
     if is_no_base(modrm, modrm) {
-        return Base::Next;
+        return Some(Base::Next);
     }
-    Base::Register(Gpr::of(prefix.b, modrm))
+    Some(Base::Register(Gpr::of(prefix.b, modrm)))
 }
 
-fn index_of(prefix: Prefix, modrm: u8, sib: u8) -> Index
+#[tactic(auto, unfolding(crate::specs::Operand::index_of))]
+fn index_of(prefix: Prefix, modrm: u8, sib: u8) -> Option<Index>
     ensures { result ≡ index_of prefix modrm sib }
 {
-    let rm = modrm % 8;
-    if rm != 4 {
-        return Index::Absent;
+    let register = Gpr::of(prefix.x, sib / 8);
+    if modrm % 8 != 4 || register.number() == 4 {
+        return None;
     }
-    let index = Gpr::of(prefix.x, sib / 8);
-    if index.number() == 4 {
-        return Index::Absent;
-    }
-    Index::Register(index, Scale::of(sib))
+    let scale = Scale::of(sib);
+    Some(Index { register, scale })
 }
 
+// The four bytes that decoding reads too: the definitions name each of them (`prefix_in`, `known_of`).
 fn prefix_in(code: &[u8]) -> Prefix
     ensures { result ≡ prefix_in code.now }
 {
@@ -156,6 +143,7 @@ fn prefix_in(code: &[u8]) -> Prefix
 }
 
 // The parts of an accepted instruction's memory operand.
+#[tactic(auto, unfolding(crate::specs::Operand::operand_of))]
 pub fn read(i: Instruction, code: &[u8]) -> Operand
     ensures { result ≡ operand_of i code.now }
 {
@@ -164,10 +152,7 @@ pub fn read(i: Instruction, code: &[u8]) -> Operand
     let modrm = byte_at(code, at + 1);
     let sib = byte_at(code, at + 2);
     let size = modrm::displacement_size(modrm, sib);
-    let encoding = i.encoding;
-    let element = i.element;
-    let width = i.width;
-    let unit = displacement::unit_of(encoding, i.broadcast, element, width);
+    let unit = displacement::unit_of(i.encoding, i.broadcast, i.element, i.width);
     let place = prefix.size as u16 + 2 + modrm::sib_size(modrm) as u16;
     Operand {
         base: base_of(prefix, modrm, sib),

@@ -2,11 +2,12 @@
 use Prim.Native.Nat.{ℕ, suc, ◌+◌, ◌*◌, ◌/◌, ◌%◌, ◌<◌, ◌≤◌}
 use mathlib.Core.Path.{◌≡◌, refl, sym, ◌∙◌, ap}
 use mathlib.Core.Bool.{Bool, true, false, cond}
-use mathlib.Core.List.{List, [], ◌∷◌, ◌++◌, map}
+use mathlib.Core.List.{List, [], ◌∷◌, ◌++◌, map, map_congr_left}
 use native.Mathlib.Omega.{arith}
 use native.Mathlib.Nat.{le_refl}
 use lib.Dec.{eqb}
 use lib.ListN.{length, get_or, get_or-map, get_or-eq_default}
+use Rattle.std.proofs.lemmas.Simd.{map-map}
 use lib.Seq.{ext_get_or}
 use borrow.Author.Tests.{eq-eqb, eqb-true, le-leb}
 use Rattle.seq.specs.Tabulate.{tabulate}
@@ -126,14 +127,6 @@ low_fine (e ∷ m) h = rw (le-leb e zero_entry (h 0)) (low_fine m (λ p. h (suc 
 
 -- ---- reading through maps
 
-pub map_both : (g h : ℕ → ℕ) (l : List ℕ) → map g (map h l) ≡ map (λ e. g (h e)) l
-map_both g h [] = refl
-map_both g h (e ∷ l) = ap (λ (t : List ℕ). g (h e) ∷ t) (map_both g h l)
-
-pub map_same : (g h : ℕ → ℕ) (l : List ℕ) → ((e : ℕ) → g e ≡ h e) → map g l ≡ map h l
-map_same g h [] f = refl
-map_same g h (e ∷ l) f = λ i. f e i ∷ map_same g h l f i
-
 -- the zero is read as zero
 pub zero_byte : (file : List ℕ) → length file ≡ file_size → read_byte file zero_entry ≡ 0
 zero_byte file e = get_or-eq_default file 0 (omega arith)
@@ -149,15 +142,15 @@ read_mapped h m d z e = ap (get_or (map h m) e) (sym z) ∙ get_or-map h m e zer
 pub apply_composed : (a b file : List ℕ) → length file ≡ file_size → applied (composed a b) file ≡ applied b (applied a file)
 unfolding applied composed
 apply_composed a b file e =
-    map_both (read_byte file) (read_entry a) b
-    ∙ sym (map_same (read_byte (map (read_byte file) a)) (λ k. read_byte file (read_entry a k)) b (read_mapped (read_byte file) a 0 (zero_byte file e)))
+    map-map (read_byte file) (read_entry a) b
+    ∙ sym (map_congr_left {l = b} (λ k m. read_mapped (read_byte file) a 0 (zero_byte file e) k))
 
 -- composing is associative
 pub compose_assoc : (a b c : List ℕ) → length a ≡ map_entries → composed (composed a b) c ≡ composed a (composed b c)
 unfolding composed
 compose_assoc a b c e =
-    map_same (read_entry (map (read_entry a) b)) (λ k. read_entry a (read_entry b k)) c (read_mapped (read_entry a) b zero_entry (zero_entry_stays a e))
-    ∙ sym (map_both (read_entry a) (read_entry b) c)
+    map_congr_left {l = c} (λ k m. read_mapped (read_entry a) b zero_entry (zero_entry_stays a e) k)
+    ∙ sym (map-map (read_entry a) (read_entry b) c)
 
 -- the map that moves nothing changes no file and no map
 pub apply_identity : (file : List ℕ) → length file ≡ file_size → applied identity file ≡ file

@@ -4,6 +4,6 @@ pub mod Laws
 pub mod Acceptance
 pub mod Lists
 pub mod Refusals
-mod Building
 mod Fine
-mod Scanning
+pub mod Reading
+pub mod Scanning

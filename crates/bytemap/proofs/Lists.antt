@@ -7,6 +7,7 @@ use native.Mathlib.Omega.{arith}
 use lib.Dec.{eqb}
 use lib.ListN.{length, drop, length-append}
 use borrow.Author.Tests.{eq-eqb, ne_eqb}
+use Rattle.std.specs.Prelude.{Ok}
 use Rattle.decode.proofs.Laws.{accepted_size}
 use Rattle.seq.proofs.Tabulate.{by_lt}
 use Rattle.seq.proofs.Choice.{both_true}
@@ -19,7 +20,6 @@ use Rattle.moves.specs.Mappable.{in_instruction, in_register, mappable}
 use Rattle.run.specs.Split.{Split, stopped, followed, split}
 use Rattle.run.specs.Run.{without_memory}
 use Rattle.run.proofs.Splits.{First, nothing, refused, goes, first, joined, empty_cut, zero_cut, next_cut, enough, settled, followed_by, no_done}
-use Rattle.run.specs.declared.Answer.{Answer}
 use Rattle.bytemap.specs.Build.{build_split}
 use Rattle.bytemap.proofs.Laws.{AllMapped}
 
@@ -43,12 +43,12 @@ mappable_plain x e = eq-eqb 0 (wanted_of x.third) (sym (register_wants x.third (
 
 module _ (features : ℕ) where
   -- a list that a map can say runs as it is mapped
-  pub runs_as_mapped : (k : ℕ) (code : List ℕ) → (cut features k code).answer ≡ Answer.Done → split without_memory MemoryLength features k code ≡ cut features k code
+  pub runs_as_mapped : (k : ℕ) (code : List ℕ) → (cut features k code).answer ≡ Ok tt → split without_memory MemoryLength features k code ≡ cut features k code
   runs_as_mapped zero code e = zero_cut without_memory MemoryLength features code ∙ sym (zero_cut mappable Unmappable features code)
   runs_as_mapped (suc k) code e = by (first mappable Unmappable features code) (runs_as_mapped k) e
     where
-      by : First mappable Unmappable features code → ((l : List ℕ) → (cut features k l).answer ≡ Answer.Done → split without_memory MemoryLength features k l ≡ cut features k l)
-          → (cut features (suc k) code).answer ≡ Answer.Done → split without_memory MemoryLength features (suc k) code ≡ cut features (suc k) code
+      by : First mappable Unmappable features code → ((l : List ℕ) → (cut features k l).answer ≡ Ok tt → split without_memory MemoryLength features k l ≡ cut features k l)
+          → (cut features (suc k) code).answer ≡ Ok tt → split without_memory MemoryLength features (suc k) code ≡ cut features (suc k) code
       by (nothing q) ih e = empty_cut without_memory MemoryLength features (suc k) code q ∙ sym (empty_cut mappable Unmappable features (suc k) code q)
       by (refused r o f) ih e = absurd (no_done r (rw (f k) at e))
       by (goes x d w f) ih e =
@@ -68,17 +68,17 @@ module _ (features : ℕ) where
       by (goes x d w f) ih = rw (f k) (w, ih (drop x.length code))
 
   -- the empty list has no step
-  pub empty_split : build_split [] features ≡ stopped Answer.Done
+  pub empty_split : build_split [] features ≡ stopped (Ok tt)
   unfolding build_split
   empty_split = zero_cut mappable Unmappable features []
 
   -- an accepted list is split to its end
-  pub whole : (code : List ℕ) → (build_split code features).answer ≡ Answer.Done → (build_split code features).place ≡ length code
+  pub whole : (code : List ℕ) → (build_split code features).answer ≡ Ok tt → (build_split code features).place ≡ length code
   unfolding build_split
   whole code e = settled mappable Unmappable features (length code) code (omega arith) e
 
   -- the split of two accepted lists, one after the other
-  pub join_split : (a b : List ℕ) → (build_split a features).answer ≡ Answer.Done → build_split (a ++ b) features ≡ joined (build_split a features) (build_split b features)
+  pub join_split : (a b : List ℕ) → (build_split a features).answer ≡ Ok tt → build_split (a ++ b) features ≡ joined (build_split a features) (build_split b features)
   unfolding build_split
   join_split a b e =
       let n = length (a ++ b) in

@@ -1,6 +1,6 @@
 -- Rules 7.2 to 7.6: building a list's map. A step is refused as decoding refuses it, and then where no byte map can say what it does. The map of an
 -- accepted list is what its steps make of the map that moves nothing, whose entries move as bytes do.
-use Rattle.std.specs.Prelude.{ℕ, Bool, List, [], ◌∷◌, eqb, leb, length, if◌then◌else◌}
+use Rattle.std.specs.Prelude.{ℕ, Bool, List, [], ◌∷◌, Result, Ok, Err, eqb, leb, length, if◌then◌else◌}
 use Rattle.seq.specs.Choice.{both}
 use Rattle.seq.specs.Tabulate.{tabulate}
 use Rattle.isa.specs.Kinds.{mask_count, map_entries, zero_entry, code_limit}
@@ -11,7 +11,6 @@ use Rattle.decode.specs.declared.instruction.Instruction.{Instruction}
 use Rattle.moves.specs.Moved.{moved}
 use Rattle.moves.specs.Mappable.{mappable}
 use Rattle.run.specs.Split.{Split, split}
-use Rattle.run.specs.declared.Answer.{Answer}
 use Rattle.bytemap.specs.declared.Built.{Built}
 
 -- rule 7.2: the whole list. No list has more steps than bytes
@@ -41,7 +40,7 @@ abbrev pub right_sizes : ℕ → ℕ → ℕ → Bool
 right_sizes masks m features = both (eqb masks mask_count) (both (eqb m map_entries) (features_known features))
 
 abbrev pub refused_build : Refusal → Built
-refused_build why = record { place = 0; answer = Answer.Refused why }
+refused_build why = record { place = 0; answer = Err why }
 
 -- rules 7.2 and 7.5: sizes and features, then the list's length, then the steps. `masks` and `m` are lengths
 unfoldable pub build_of : List ℕ → ℕ → ℕ → ℕ → Built
@@ -49,9 +48,9 @@ build_of code masks features m =
     if right_sizes masks m features then (if leb (length code) code_limit then scanned_of code features else refused_build TooLong)
     else refused_build Argument
 
-abbrev pub map_on_answer : Answer → List ℕ → List ℕ → List ℕ
-map_on_answer Answer.Done built m = built
-map_on_answer (Answer.Refused why) built m = m
+abbrev pub map_on_answer : Result Unit Refusal → List ℕ → List ℕ → List ℕ
+map_on_answer (Ok done) built m = built
+map_on_answer (Err why) built m = m
 
 -- rule 7.6: the map that is written. A refusal changes no entry
 unfoldable pub map_built : List ℕ → List ℕ → ℕ → List ℕ → List ℕ

@@ -2,18 +2,10 @@
 use Rattle.std.specs.Prelude.{ℕ, List, []}
 use Rattle.isa.specs.Kinds.{zero_entry}
 use Rattle.isa.specs.Operands.{element_bytes}
-use Rattle.isa.specs.declared.refusal.Refusal.TheVariants.{Unmappable}
 use Rattle.decode.specs.declared.instruction.Instruction.{Instruction}
-use Rattle.decode.specs.declared.instruction.Decoded.{Decoded}
 use Rattle.moves.specs.Origin.{origin_of}
 use Rattle.moves.specs.Moved.{register_at, first_register, third_part, repeated, immediate_byte, control_by, held, entry_of}
 use Rattle.moves.specs.declared.Origin.{Origin}
-use Rattle.run.specs.declared.Answer.{Answer}
-use Rattle.bytemap.specs.declared.Built.{Built}
-
-abbrev pub refused_at : ℕ → Decoded → Built
-refused_at place (Decoded.Refused why) = record { place = place; answer = Answer.Refused why }
-refused_at place (Decoded.Accepted x) = record { place = place; answer = Answer.Refused Unmappable }
 
 -- where element j comes from: no entry is a control
 abbrev pub origin_in : Instruction → ℕ → ℕ → Origin

@@ -1,242 +1,151 @@
 // Byte maps: for each byte of a register file, the byte of a starting file that it comes from, or zero.
 #![tactic(auto)]
 
-ghost use Rattle.std.specs.Prelude.{◌≡◌, [], ◌+◌, ◌*◌, ◌%◌, ◌≤◌, eqb, length, get_or};
+ghost use Rattle.std.specs.Prelude.{◌≡◌, ◌≢◌, [], ◌+◌, ◌*◌, length, get_or, map, MatchOption, Ok, Err};
+ghost use Rattle.std.specs.Borrow.{sem, LendsIf, Array};
 ghost use Rattle.seq.specs.Tabulate.{tabulate};
-ghost use Rattle.seq.specs.Choice.{both};
-ghost use Rattle.isa.specs.Kinds.{registers, file_size, map_entries, zero_entry, code_limit};
+ghost use Rattle.isa.specs.Kinds.{zero_entry};
 ghost use Rattle.isa.specs.Operands.{element_bytes};
-ghost use Rattle.moves.specs.Moved.{register_at, third_part, repeated, immediate_byte, control_by, placed};
-ghost use Rattle.moves.specs.Mappable.{in_instruction, in_register, mappable};
-ghost use Rattle.bytemap.specs.Build.{build_split, scanned_of, identity, moved_map, map_of, right_sizes, refused_build, build_of, map_on_answer, map_built};
-ghost use Rattle.bytemap.specs.Inner.{refused_at, origin_in, held_in, entry_in};
-ghost use Rattle.bytemap.specs.ByteMap.{fine, applied, composed, apply_of, file_applied, compose_of, map_composed};
+ghost use Rattle.moves.specs.Moved.{register_at, third_part, repeated};
+ghost use Rattle.moves.specs.Mappable.{mappable};
+ghost use Rattle.bytemap.specs.Build.{build_split, scanned_of, identity, moved_map, map_of, build_of, map_built};
+ghost use Rattle.bytemap.specs.Inner.{held_in, entry_in};
+ghost use Rattle.bytemap.specs.ByteMap.{fine, apply_of, file_applied, compose_of, map_composed};
 
-use decode::instruction::{Decoded, Immediate, Instruction, Third};
+use decode::instruction::{Instruction, Third};
+use decode::steps::Steps;
 use isa::features::Features;
 use isa::kinds::{ByteMap, Code, Mask, Offset, Reg, RegisterFile};
 use isa::operands::{Control, Element};
 use isa::refusal::Refusal;
 use moves::Origin;
-use run::Answer;
-use seq::byte_at;
 
-// The entry at i, and the entry for zero past the end.
-fn entry_at(map: &[u16], i: usize) -> u16
-    ensures { result ≡ get_or map.now i zero_entry }
+// The slice as an array, if it has as many elements. as_array itself promises each of 2,048 elements apart, and proofs of calls stop there at a
+// limit.
+fn sized<T, const N: usize>(s: &[T]) -> Option<&[T; N]>
+    ensures { MatchOption result (length s.now ≢ N) (λ array. (length s.now ≡ N) × (array.now ≡ s.now)) }
 {
-    if i < map.len() { map[i] } else { ByteMap::ZERO }
+    s.as_array()
 }
 
-// Whether every entry is an offset or the entry for zero.
-fn is_fine(map: &[u16]) -> bool
+fn sized_mut<T, const N: usize>(s: &mut [T]) -> Option<&mut [T; N]>
+    ensures cases { MatchOption result (length s.old ≢ N) (λ array. (length s.old ≡ N) × (array.now ≡ s.old)) }
+    ensures* writes_back { sem 𝓛 (LendsIf (Array T.row 0) (Array T.row 0) s.entry result (λ written. written) s.old) }
+{
+    s.as_mut_array()
+}
+
+// Whether every entry is an offset or the entry for zero. A fold, where all would stop early: the compiler then takes several entries at once.
+fn is_fine(map: &[u16; ByteMap::ENTRIES]) -> bool
     ensures { result ≡ fine map.now }
 {
-    let mut i: usize = 0;
-    while i < map.len() {
-        if ByteMap::ZERO < map[i] {
-            return false;
-        }
-        i += 1;
-    }
-    true
+    map.iter()
+        .fold(true, |fine, entry| fine & (*entry <= ByteMap::ZERO))
 }
 
-// The bytes of a file, to read from while the file is written.
-fn copy_of(file: &[u8]) -> [u8; RegisterFile::SIZE]
-    requires { length file.now ≡ file_size }
-    ensures { result ≡ file.now }
+// Each element becomes the one that its entry names in another list, or what stands past that list's end. No zip: of what iter_mut gave
+// to one nothing is known after the loop.
+fn read_through<T: Copy, const N: usize>(entries: &[u16; N], from: &[T], past: T, out: &mut [T; N])
+    ensures { out.new ≡ map (λ e. get_or from.now e past) entries.now }
 {
-    let mut bytes = [0u8; RegisterFile::SIZE];
-    for i in 0..RegisterFile::SIZE {
-        bytes[i] = file[i];
+    for (i, element) in out.iter_mut().enumerate() {
+        *element = from.get(entries[i] as usize).copied().unwrap_or(past);
     }
-    bytes
-}
-
-fn move_bytes(map: &[u16], old: &[u8], file: &mut [u8])
-    requires { (length map.now ≡ map_entries) × (length file.old ≡ file_size) }
-    ensures { file.new ≡ applied map.now old.now }
-{
-    for i in 0..RegisterFile::SIZE {
-        file[i] = byte_at(old, map[i] as usize);
-    }
-}
-
-fn apply_sizes(map: usize, file: usize) -> bool
-    ensures { result ≡ both (eqb map map_entries) (eqb file file_size) }
-{
-    if map == ByteMap::ENTRIES {
-        return file == RegisterFile::SIZE;
-    }
-    false
 }
 
 // Replaces each byte of a file by the one that the map names.
-pub fn apply(map: &[u16], file: &mut [u8]) -> Answer
+#[tactic(auto, unfolding(crate::specs::ByteMap::apply_of, crate::specs::ByteMap::file_applied, crate::specs::ByteMap::applied))]
+pub fn apply(map: &[u16], file: &mut [u8]) -> Result<(), Refusal>
     ensures { (result ≡ apply_of map.now (length file.old)) × (file.new ≡ file_applied map.now file.old) }
 {
-    if apply_sizes(map.len(), file.len()) {
-        if is_fine(map) {
-            let old = copy_of(file);
-            move_bytes(map, &old, file);
-            return Answer::Done;
-        }
-        return Answer::Refused(Refusal::BadEntry);
+    let map = sized(map).ok_or(Refusal::Argument)?;
+    let Some(file) = sized_mut(file) else {
+        return Err(Refusal::Argument);
+    };
+    if !is_fine(map) {
+        return Err(Refusal::BadEntry);
     }
-    Answer::Refused(Refusal::Argument)
-}
-
-fn move_entries(first: &[u16], second: &[u16], out: &mut [u16])
-    requires { (length second.now ≡ map_entries) × (length out.old ≡ map_entries) }
-    ensures { out.new ≡ composed first.now second.now }
-{
-    for i in 0..ByteMap::ENTRIES {
-        out[i] = entry_at(first, second[i] as usize);
-    }
-}
-
-fn both_fine(first: &[u16], second: &[u16]) -> bool
-    ensures { result ≡ both (fine first.now) (fine second.now) }
-{
-    if is_fine(first) {
-        is_fine(second)
-    } else {
-        false
-    }
-}
-
-fn compose_sizes(first: usize, second: usize, out: usize) -> bool
-    ensures { result ≡ both (eqb first map_entries) (both (eqb second map_entries) (eqb out map_entries)) }
-{
-    if first == ByteMap::ENTRIES {
-        if second == ByteMap::ENTRIES {
-            return out == ByteMap::ENTRIES;
-        }
-    }
-    false
+    let old: [u8; RegisterFile::SIZE] = *file;
+    read_through(map, &old, 0, file);
+    Ok(())
 }
 
 // The map of the first map's moves and then the second's. Whatever out held before does not count.
-pub fn compose(first: &[u16], second: &[u16], out: &mut [u16]) -> Answer
+#[tactic(auto, unfolding(crate::specs::ByteMap::compose_of, crate::specs::ByteMap::map_composed, crate::specs::ByteMap::composed))]
+pub fn compose(first: &[u16], second: &[u16], out: &mut [u16]) -> Result<(), Refusal>
     ensures { (result ≡ compose_of first.now second.now (length out.old)) × (out.new ≡ map_composed first.now second.now out.old) }
 {
-    if compose_sizes(first.len(), second.len(), out.len()) {
-        if both_fine(first, second) {
-            move_entries(first, second, out);
-            return Answer::Done;
-        }
-        return Answer::Refused(Refusal::BadEntry);
+    let first: &[u16; ByteMap::ENTRIES] = sized(first).ok_or(Refusal::Argument)?;
+    let second: &[u16; ByteMap::ENTRIES] = sized(second).ok_or(Refusal::Argument)?;
+    let Some(out) = sized_mut(out) else {
+        return Err(Refusal::Argument);
+    };
+    if !is_fine(first) || !is_fine(second) {
+        return Err(Refusal::BadEntry);
     }
-    Answer::Refused(Refusal::Argument)
+    read_through(second, first, ByteMap::ZERO, out);
+    Ok(())
 }
 
 #[derive(Clone, Copy)]
 pub struct Built {
     // The list's length, or where the refused step starts.
     pub place: usize,
-    pub answer: Answer,
+    pub answer: Result<(), Refusal>,
 }
 
-fn refused_at(place: usize, decoded: Decoded) -> Built
-    ensures { result ≡ refused_at place decoded }
-{
-    match decoded {
-        Decoded::Refused(why) => Built {
-            place: place,
-            answer: Answer::Refused(why),
-        },
-        Decoded::Accepted(_) => Built {
-            place: place,
-            answer: Answer::Refused(Refusal::Unmappable),
-        },
+impl Built {
+    fn refused(place: usize, why: Refusal) -> Built
+        ensures { result ≡ record { place = place; answer = Err why } }
+    {
+        Built {
+            place,
+            answer: Err(why),
+        }
     }
 }
 
-fn in_register(third: Third) -> bool
-    ensures { result ≡ in_register third }
-{
-    match third {
-        Third::Register(_) => true,
-        Third::Memory(_) => false,
-    }
-}
-
-fn in_instruction(control: Control) -> bool
-    ensures { result ≡ in_instruction control }
-{
-    match control {
-        Control::Nowhere => true,
-        Control::Immediate => true,
-        Control::First => false,
-        Control::Third => false,
-    }
-}
-
-// Whether a byte map can say what the instruction does.
+// Whether a byte map can say what the instruction does: nothing of it is in memory, and its control is in no register.
+#[tactic(auto, unfolding(moves::specs::Mappable::mappable))]
 fn is_mappable(x: Instruction) -> bool
     ensures { result ≡ mappable x }
 {
-    let third = x.third;
-    let control = x.control;
-    if in_register(third) {
-        return in_instruction(control);
-    }
-    false
+    matches!(x.third, Third::Register(_))
+        && matches!(x.control, Control::Nowhere | Control::Immediate)
 }
 
 // Looks for a step that is refused, and writes nothing.
+#[tactic(auto, using(crate::proofs::Scanning::scanning))]
 fn scan(code: &[u8], features: Features) -> Built
-    requires { length code.now ≤ code_limit }
     ensures { result ≡ scanned_of code.now features.0 }
 {
-    let mut place: usize = 0;
-    while place < code.len() {
-        let decoded = decode::decode(&code[place..], features);
-        let Decoded::Accepted(x) = decoded else {
-            return refused_at(place, decoded);
-        };
-        if is_mappable(x) {
-            place += x.length;
-        } else {
-            return Built {
-                place: place,
-                answer: Answer::Refused(Refusal::Unmappable),
-            };
+    let mut place = 0;
+    for step in Steps::of(code, features) {
+        match step {
+            Ok(x) if is_mappable(x) => place += x.length,
+            Ok(_) => return Built::refused(place, Refusal::Unmappable),
+            Err(why) => return Built::refused(place, why),
         }
     }
     Built {
-        place: place,
-        answer: Answer::Done,
+        place,
+        answer: Ok(()),
     }
 }
 
-fn register_entry(map: &[u16], register: Reg, i: u32) -> u16
+fn register_entry(map: &[u16; ByteMap::ENTRIES], register: Reg, i: u32) -> u16
     ensures { result ≡ register_at zero_entry map.now register i }
 {
-    let at = Offset::of(register, i);
-    entry_at(map, at.number() as usize)
+    map[Offset::of(register, i).number() as usize]
 }
 
-fn third_entry(map: &[u16], third: Third, j: u32) -> u16
-    requires { length map.now ≡ map_entries }
+#[tactic(auto, using(moves::proofs::Placed::part_entry))]
+fn third_entry(map: &[u16; ByteMap::ENTRIES], third: Third, j: u32) -> u16
     ensures { result ≡ repeated zero_entry (third_part third [] map.now) j }
 {
     match third {
         Third::Register(register) => register_entry(map, register, j),
         Third::Memory(_) => ByteMap::ZERO,
-    }
-}
-
-// The control, which no entry has.
-fn control(from: Control, immediate: Immediate) -> u8
-    ensures { result ≡ control_by from (immediate_byte immediate) 0 0 }
-{
-    match from {
-        Control::Nowhere => 0,
-        Control::Immediate => moves::immediate_byte(immediate),
-        Control::First => 0,
-        Control::Third => 0,
     }
 }
 
@@ -248,150 +157,88 @@ fn byte_in(element: Element, p: u16, b: u8) -> u32
 }
 
 // Entry b of what an element comes from.
-fn held_entry(x: Instruction, from: Origin, map: &[u16], b: u8) -> u16
-    requires { length map.now ≡ map_entries }
+fn held_entry(x: Instruction, from: Origin, map: &[u16; ByteMap::ENTRIES], b: u8) -> u16
     ensures { result ≡ held_in x map.now from b }
 {
-    let first = x.first;
-    let third = x.third;
-    let destination = x.destination;
-    let element = x.element;
     match from {
         Origin::First(p) => register_entry(
             map,
-            moves::first_register(first),
-            byte_in(element, p, b),
+            moves::first_register(x.first),
+            byte_in(x.element, p, b),
         ),
-        Origin::Third(p) => third_entry(map, third, byte_in(element, p, b)),
-        Origin::Destination(p) => register_entry(map, destination, byte_in(element, p, b)),
+        Origin::Third(p) => third_entry(map, x.third, byte_in(x.element, p, b)),
+        Origin::Destination(p) => register_entry(map, x.destination, byte_in(x.element, p, b)),
         Origin::Zero => ByteMap::ZERO,
     }
 }
 
-// Where element j comes from.
-fn origin_at(x: Instruction, bits: u64, j: u8) -> Origin
-    ensures { result ≡ origin_in x bits j }
-{
-    let from = x.control;
-    let immediate = x.immediate;
-    let moves = x.moves;
-    let element = x.element;
-    let width = x.width;
-    let c = control(from, immediate);
-    moves::origin_of(moves, element, width, x.zeroing, bits, c, j)
-}
-
-// The destination's entries. The origin is looked for at an element's first entry alone.
-fn entries(x: Instruction, bits: u64, map: &[u16]) -> [u16; 64]
-    requires { length map.now ≡ map_entries }
+// The destination's entries, from one loop, since by elements it would be two. The origin is looked for at an element's first entry alone,
+// and no entry is a control.
+fn entries(x: Instruction, bits: u64, map: &[u16; ByteMap::ENTRIES]) -> [u16; 64]
     ensures { result ≡ tabulate 64 (entry_in x bits map.now) }
 {
-    let element = x.element;
-    let n = element.bytes();
+    let n = x.element.bytes();
     let mut new = [0u16; 64];
     let mut from = Origin::Zero;
-    for i in 0..64u8 {
-        let k = i % n;
+    for (i, entry) in new.iter_mut().enumerate() {
+        let k = i as u8 % n;
         if k == 0 {
-            from = origin_at(x, bits, i / n);
+            from = moves::origin_at(x, bits, 0, i as u8 / n);
         }
-        new[i as usize] = held_entry(x, from, map, k);
+        *entry = held_entry(x, from, map, k);
     }
     new
 }
 
-// Puts 64 entries into a register.
-fn put_entries(map: &mut [u16], register: Reg, new: [u16; 64])
-    requires { length map.old ≡ map_entries }
-    ensures { map.new ≡ tabulate (length map.old) (placed zero_entry map.old (register.0 % registers) (λ i. get_or new i 0)) }
-{
-    let at = Offset::of(register, 0);
-    let start = at.number() as usize;
-    for i in 0..64 {
-        map[start + i] = new[i];
-    }
-}
-
 // Carries a step out on a map's entries.
-fn step_map(x: Instruction, masks: &[u64], map: &mut [u16])
-    requires { length map.old ≡ map_entries }
+fn step_map(x: Instruction, masks: &[u64], map: &mut [u16; ByteMap::ENTRIES])
     ensures { map.new ≡ moved_map x masks.now map.old }
 {
-    let mask = x.mask;
-    let destination = x.destination;
-    let new = entries(x, moves::mask_bits(masks, mask), map);
-    put_entries(map, destination, new);
+    let new = entries(x, moves::mask_bits(masks, x.mask), map);
+    moves::put(map, x.destination, &new);
 }
 
-fn fill_identity(map: &mut [u16])
-    requires { length map.old ≡ map_entries }
+#[tactic(auto, using(crate::proofs::Reading::is_identity))]
+fn fill_identity(map: &mut [u16; ByteMap::ENTRIES])
     ensures { map.new ≡ identity }
 {
-    for i in 0..ByteMap::ENTRIES {
-        map[i] = i as u16;
+    for (i, entry) in map.iter_mut().enumerate() {
+        *entry = i as u16;
     }
 }
 
-// Carries the steps of an accepted list out on the map that moves nothing.
-fn write_steps(code: &[u8], masks: &[u64], features: Features, map: &mut [u16])
-    requires { (map.old ≡ identity) × (length code.now ≤ code_limit) × ((build_split code.now features.0).answer ≡ Answer.Done) }
+// Writes an accepted list's map, whatever the entries held.
+#[tactic(auto, using(crate::proofs::Scanning::writing))]
+fn write_map(code: &[u8], masks: &[u64], features: Features, map: &mut [u16; ByteMap::ENTRIES])
+    requires { (build_split code.now features.0).answer ≡ Ok tt }
     ensures { map.new ≡ map_of code.now masks.now features.0 }
 {
-    let mut place: usize = 0;
-    while place < code.len() {
-        let decoded = decode::decode(&code[place..], features);
-        let Decoded::Accepted(x) = decoded else {
+    fill_identity(map);
+    for step in Steps::of(code, features) {
+        let Ok(x) = step else {
             return;
         };
         step_map(x, masks, map);
-        place += x.length;
     }
-}
-
-// The map of a list, once the sizes are right. Nothing is written unless every step is accepted.
-fn build_list(code: &[u8], masks: &[u64], features: Features, map: &mut [u16]) -> Built
-    requires { (length map.old ≡ map_entries) × (length code.now ≤ code_limit) }
-    ensures { (result ≡ scanned_of code.now features.0) × (map.new ≡ map_on_answer (build_split code.now features.0).answer (map_of code.now masks.now features.0) map.old) }
-{
-    let built = scan(code, features);
-    let answer = built.answer;
-    if let Answer::Done = answer {
-        fill_identity(map);
-        write_steps(code, masks, features, map);
-        return built;
-    }
-    built
-}
-
-fn refused_build(why: Refusal) -> Built
-    ensures { result ≡ refused_build why }
-{
-    Built {
-        place: 0,
-        answer: Answer::Refused(why),
-    }
-}
-
-fn build_sizes(masks: usize, map: usize, features: Features) -> bool
-    ensures { result ≡ right_sizes masks map features.0 }
-{
-    if masks == Mask::COUNT as usize {
-        if map == ByteMap::ENTRIES {
-            return features.known();
-        }
-    }
-    false
 }
 
 // Builds the map of a list, or says which step has none and changes no entry.
+#[tactic(auto, unfolding(crate::specs::Build::build_of, crate::specs::Build::map_built, crate::specs::Build::scanned_of))]
 pub fn build(code: &[u8], masks: &[u64], features: Features, map: &mut [u16]) -> Built
     ensures { (result ≡ build_of code.now (length masks.now) features.0 (length map.old)) × (map.new ≡ map_built code.now masks.now features.0 map.old) }
 {
-    if build_sizes(masks.len(), map.len(), features) {
-        if Code::LIMIT < code.len() {
-            return refused_build(Refusal::TooLong);
-        }
-        return build_list(code, masks, features, map);
+    if masks.len() != Mask::COUNT as usize || !features.known() {
+        return Built::refused(0, Refusal::Argument);
     }
-    refused_build(Refusal::Argument)
+    let Some(map) = sized_mut(map) else {
+        return Built::refused(0, Refusal::Argument);
+    };
+    if Code::LIMIT < code.len() {
+        return Built::refused(0, Refusal::TooLong);
+    }
+    let built = scan(code, features);
+    if built.answer.is_ok() {
+        write_map(code, masks, features, map);
+    }
+    built
 }

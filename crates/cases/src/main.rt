@@ -1,94 +1,106 @@
 // The worked cases of docs/RULES.md, each decoded and carried out, with the origin of every byte of the destination.
 #![tactic(auto)]
 
-ghost use Rattle.std.specs.Prelude.{◌<◌, ◌≤◌, get_or};
+ghost use Rattle.std.specs.Prelude.{◌≤◌};
 
-use decode::instruction::Decoded;
+use decode::instruction::Instruction;
 use isa::features::Features;
 use isa::kinds::{Reg, RegisterFile};
-use seq::byte_at;
+use isa::refusal::Refusal;
 use std::io;
-use step::Stepped;
 
-// The features, the number of bytes, and the bytes.
-const CASES: [[u8; 9]; 60] = [
-    [31, 5, 0xC5, 0xF9, 0x70, 0xCA, 0x1B, 0, 0],
-    [31, 4, 0xC5, 0xF9, 0x70, 0xCA, 0, 0, 0],
-    [31, 5, 0xC5, 0xE9, 0x70, 0xCA, 0x1B, 0, 0],
-    [31, 7, 0x62, 0xF1, 0x7D, 0xC9, 0x70, 0xCA, 0x1B],
-    [31, 7, 0x62, 0xF1, 0x7D, 0xC8, 0x70, 0xCA, 0x1B],
-    [31, 7, 0x62, 0xF1, 0x7D, 0x68, 0x70, 0xCA, 0x1B],
-    [31, 7, 0x62, 0xF1, 0x7D, 0x58, 0x70, 0x08, 0x00],
-    [31, 7, 0x62, 0xF1, 0x7D, 0x58, 0x70, 0xCA, 0x1B],
-    [31, 7, 0x62, 0x81, 0x7D, 0x48, 0x70, 0xCA, 0x1B],
-    [31, 6, 0xC4, 0xE3, 0x7D, 0x05, 0xCA, 0x05, 0],
-    [31, 6, 0xC4, 0xE3, 0x69, 0x06, 0xCB, 0x31, 0],
-    [31, 6, 0x62, 0xF2, 0x6D, 0x58, 0x8D, 0x08, 0],
-    [31, 5, 0xC4, 0xE2, 0x69, 0x0D, 0xCB, 0, 0],
-    [31, 4, 0xC5, 0xE8, 0x14, 0xCB, 0, 0, 0],
-    [31, 7, 0xC5, 0xF9, 0x70, 0x44, 0x88, 0x10, 0x1B],
-    [31, 6, 0xC4, 0xE3, 0x6D, 0x06, 0xCB, 0x88, 0],
-    [63, 4, 0xC5, 0xE8, 0x15, 0xCB, 0, 0, 0],
-    [63, 6, 0xC4, 0xE3, 0x79, 0x04, 0xCA, 0x1B, 0],
-    [63, 6, 0x62, 0xF2, 0x6D, 0x48, 0x00, 0xCB, 0],
-    [63, 6, 0x62, 0xF2, 0xED, 0x48, 0x00, 0xCB, 0],
-    [63, 6, 0x62, 0xF2, 0x6D, 0x58, 0x00, 0x08, 0],
-    [31, 6, 0x62, 0xF2, 0x6D, 0x48, 0x00, 0xCB, 0],
-    [63, 4, 0xC5, 0xE9, 0x14, 0xCB, 0, 0, 0],
-    [63, 5, 0xC4, 0xE1, 0xE9, 0x14, 0xCB, 0, 0],
-    [63, 6, 0x62, 0xF1, 0x6D, 0x48, 0x14, 0xCB, 0],
-    [63, 6, 0x62, 0xF1, 0xED, 0x48, 0x14, 0xCB, 0],
-    [63, 4, 0xC5, 0xE9, 0x15, 0xCB, 0, 0, 0],
-    [63, 6, 0x62, 0xF2, 0x6D, 0x48, 0x0C, 0xCB, 0],
-    [63, 6, 0x62, 0xF2, 0x6D, 0x58, 0x0C, 0x08, 0],
-    [63, 6, 0x62, 0xF2, 0x6D, 0x49, 0x00, 0xCB, 0],
-    [63, 7, 0x62, 0xF9, 0x7D, 0x48, 0x70, 0xCA, 0x1B],
-    [63, 6, 0xC4, 0xE3, 0xED, 0x06, 0xCB, 0x21, 0],
-    [63, 7, 0x62, 0xF9, 0x7D, 0x68, 0x70, 0xCA, 0x1B],
-    [63, 7, 0x62, 0xF9, 0x75, 0x48, 0x70, 0xCA, 0x1B],
-    [63, 7, 0x62, 0xF9, 0x7D, 0x58, 0x70, 0xCA, 0x1B],
-    [63, 7, 0x62, 0xF9, 0x7D, 0xC8, 0x70, 0xCA, 0x1B],
-    [63, 6, 0xC4, 0xE3, 0xE9, 0x06, 0xCB, 0x31, 0],
-    [63, 6, 0xC4, 0xE3, 0xF5, 0x05, 0xCA, 0x05, 0],
-    [63, 7, 0x62, 0xF1, 0x75, 0x68, 0x70, 0xCA, 0x1B],
-    [63, 7, 0x62, 0xF1, 0x7D, 0x78, 0x70, 0xCA, 0x1B],
-    [63, 7, 0x62, 0xF1, 0x7D, 0xE8, 0x70, 0xCA, 0x1B],
-    [63, 7, 0x62, 0xF1, 0x75, 0x58, 0x70, 0xCA, 0x1B],
-    [63, 7, 0x62, 0xF1, 0x75, 0xC8, 0x70, 0xCA, 0x1B],
-    [63, 7, 0x62, 0xF1, 0x7D, 0xD8, 0x70, 0xCA, 0x1B],
-    [2, 5, 0xC5, 0xFD, 0x70, 0xCA, 0x1B, 0, 0],
-    [4, 7, 0x62, 0xF1, 0x7D, 0x48, 0x70, 0xCA, 0x1B],
-    [8, 5, 0xC5, 0xF9, 0x70, 0xCA, 0x1B, 0, 0],
-    [9, 7, 0x62, 0xF1, 0x7D, 0x28, 0x70, 0xCA, 0x1B],
-    [17, 6, 0x62, 0xF2, 0x6D, 0x48, 0x8D, 0xCB, 0],
-    [33, 6, 0x62, 0xF2, 0x6D, 0x48, 0x00, 0xCB, 0],
-    [59, 5, 0xC5, 0xF9, 0x70, 0xCA, 0x1B, 0, 0],
-    [62, 5, 0xC5, 0xF9, 0x70, 0xCA, 0x1B, 0, 0],
-    [0, 5, 0xC5, 0xF9, 0x70, 0xCA, 0x1B, 0, 0],
-    [13, 7, 0x62, 0xF1, 0x7D, 0x28, 0x70, 0xCA, 0x1B],
-    [63, 7, 0x62, 0xF5, 0x7D, 0x48, 0x70, 0xCA, 0x1B],
-    [63, 7, 0x62, 0xF4, 0x7D, 0x48, 0x70, 0xCA, 0x1B],
-    [63, 7, 0x62, 0xF0, 0x7D, 0x48, 0x70, 0xCA, 0x1B],
-    [63, 7, 0x62, 0xF1, 0x79, 0x48, 0x70, 0xCA, 0x1B],
-    [63, 7, 0x62, 0xFD, 0x7D, 0x48, 0x70, 0xCA, 0x1B],
-    [63, 7, 0x62, 0xF5, 0x79, 0x48, 0x70, 0xCA, 0x1B],
+// A worked case: the features, and the bytes.
+#[derive(Clone, Copy)]
+struct Case {
+    features: u32,
+    code: &'static [u8],
+}
+
+// The features, then the bytes.
+macro_rules! case {
+    ($features:literal: $($byte:literal)*) => {
+        Case { features: $features, code: &[$($byte),*] }
+    };
+}
+
+static CASES: [Case; 60] = [
+    case!(31: 0xC5 0xF9 0x70 0xCA 0x1B),
+    case!(31: 0xC5 0xF9 0x70 0xCA),
+    case!(31: 0xC5 0xE9 0x70 0xCA 0x1B),
+    case!(31: 0x62 0xF1 0x7D 0xC9 0x70 0xCA 0x1B),
+    case!(31: 0x62 0xF1 0x7D 0xC8 0x70 0xCA 0x1B),
+    case!(31: 0x62 0xF1 0x7D 0x68 0x70 0xCA 0x1B),
+    case!(31: 0x62 0xF1 0x7D 0x58 0x70 0x08 0x00),
+    case!(31: 0x62 0xF1 0x7D 0x58 0x70 0xCA 0x1B),
+    case!(31: 0x62 0x81 0x7D 0x48 0x70 0xCA 0x1B),
+    case!(31: 0xC4 0xE3 0x7D 0x05 0xCA 0x05),
+    case!(31: 0xC4 0xE3 0x69 0x06 0xCB 0x31),
+    case!(31: 0x62 0xF2 0x6D 0x58 0x8D 0x08),
+    case!(31: 0xC4 0xE2 0x69 0x0D 0xCB),
+    case!(31: 0xC5 0xE8 0x14 0xCB),
+    case!(31: 0xC5 0xF9 0x70 0x44 0x88 0x10 0x1B),
+    case!(31: 0xC4 0xE3 0x6D 0x06 0xCB 0x88),
+    case!(63: 0xC5 0xE8 0x15 0xCB),
+    case!(63: 0xC4 0xE3 0x79 0x04 0xCA 0x1B),
+    case!(63: 0x62 0xF2 0x6D 0x48 0x00 0xCB),
+    case!(63: 0x62 0xF2 0xED 0x48 0x00 0xCB),
+    case!(63: 0x62 0xF2 0x6D 0x58 0x00 0x08),
+    case!(31: 0x62 0xF2 0x6D 0x48 0x00 0xCB),
+    case!(63: 0xC5 0xE9 0x14 0xCB),
+    case!(63: 0xC4 0xE1 0xE9 0x14 0xCB),
+    case!(63: 0x62 0xF1 0x6D 0x48 0x14 0xCB),
+    case!(63: 0x62 0xF1 0xED 0x48 0x14 0xCB),
+    case!(63: 0xC5 0xE9 0x15 0xCB),
+    case!(63: 0x62 0xF2 0x6D 0x48 0x0C 0xCB),
+    case!(63: 0x62 0xF2 0x6D 0x58 0x0C 0x08),
+    case!(63: 0x62 0xF2 0x6D 0x49 0x00 0xCB),
+    case!(63: 0x62 0xF9 0x7D 0x48 0x70 0xCA 0x1B),
+    case!(63: 0xC4 0xE3 0xED 0x06 0xCB 0x21),
+    case!(63: 0x62 0xF9 0x7D 0x68 0x70 0xCA 0x1B),
+    case!(63: 0x62 0xF9 0x75 0x48 0x70 0xCA 0x1B),
+    case!(63: 0x62 0xF9 0x7D 0x58 0x70 0xCA 0x1B),
+    case!(63: 0x62 0xF9 0x7D 0xC8 0x70 0xCA 0x1B),
+    case!(63: 0xC4 0xE3 0xE9 0x06 0xCB 0x31),
+    case!(63: 0xC4 0xE3 0xF5 0x05 0xCA 0x05),
+    case!(63: 0x62 0xF1 0x75 0x68 0x70 0xCA 0x1B),
+    case!(63: 0x62 0xF1 0x7D 0x78 0x70 0xCA 0x1B),
+    case!(63: 0x62 0xF1 0x7D 0xE8 0x70 0xCA 0x1B),
+    case!(63: 0x62 0xF1 0x75 0x58 0x70 0xCA 0x1B),
+    case!(63: 0x62 0xF1 0x75 0xC8 0x70 0xCA 0x1B),
+    case!(63: 0x62 0xF1 0x7D 0xD8 0x70 0xCA 0x1B),
+    case!(2: 0xC5 0xFD 0x70 0xCA 0x1B),
+    case!(4: 0x62 0xF1 0x7D 0x48 0x70 0xCA 0x1B),
+    case!(8: 0xC5 0xF9 0x70 0xCA 0x1B),
+    case!(9: 0x62 0xF1 0x7D 0x28 0x70 0xCA 0x1B),
+    case!(17: 0x62 0xF2 0x6D 0x48 0x8D 0xCB),
+    case!(33: 0x62 0xF2 0x6D 0x48 0x00 0xCB),
+    case!(59: 0xC5 0xF9 0x70 0xCA 0x1B),
+    case!(62: 0xC5 0xF9 0x70 0xCA 0x1B),
+    case!(0: 0xC5 0xF9 0x70 0xCA 0x1B),
+    case!(13: 0x62 0xF1 0x7D 0x28 0x70 0xCA 0x1B),
+    case!(63: 0x62 0xF5 0x7D 0x48 0x70 0xCA 0x1B),
+    case!(63: 0x62 0xF4 0x7D 0x48 0x70 0xCA 0x1B),
+    case!(63: 0x62 0xF0 0x7D 0x48 0x70 0xCA 0x1B),
+    case!(63: 0x62 0xF1 0x79 0x48 0x70 0xCA 0x1B),
+    case!(63: 0x62 0xFD 0x7D 0x48 0x70 0xCA 0x1B),
+    case!(63: 0x62 0xF5 0x79 0x48 0x70 0xCA 0x1B),
 ];
 
 const MASKS: [u64; 8] = [0, 0x5555, 0x2222, 0x3333, 0x4444, 0x6666, 0x7777, 0x8888];
 
-const LANE_BYTES: usize = 16;
+// A control for each lane.
+type Control = [u8; 16];
 
-// Controls for a lane. Of a quadword bit 1 counts: 2 takes the high one, 1 the low one.
-const QWORDS_2_1: [u8; LANE_BYTES] = [2, 0, 0, 0, 0, 0, 0, 0, 1, 0, 0, 0, 0, 0, 0, 0];
+// Of a quadword bit 1 counts: 2 takes the high one, 1 the low one.
+const QWORDS_2_1: Control = [2, 0, 0, 0, 0, 0, 0, 0, 1, 0, 0, 0, 0, 0, 0, 0];
 
 // 80 and FF clear; the others take byte 0 or byte 15.
-const BYTE_CONTROLS: [u8; LANE_BYTES] =
-    *b"\x00\x0F\x10\x7F\x80\xFF\x00\x0F\x10\x7F\x80\xFF\x00\x0F\x10\x7F";
+const BYTE_CONTROLS: Control = *b"\x00\x0F\x10\x7F\x80\xFF\x00\x0F\x10\x7F\x80\xFF\x00\x0F\x10\x7F";
 
 // Of a doubleword bits 1:0 count.
-const DWORDS_3210: [u8; LANE_BYTES] = [3, 0, 0, 0, 2, 0, 0, 0, 1, 0, 0, 0, 0, 0, 0, 0];
+const DWORDS_3210: Control = [3, 0, 0, 0, 2, 0, 0, 0, 1, 0, 0, 0, 0, 0, 0, 0];
 
-const DWORDS_6745: [u8; LANE_BYTES] = [6, 0, 0, 0, 7, 0, 0, 0, 4, 0, 0, 0, 5, 0, 0, 0];
+const DWORDS_6745: Control = [6, 0, 0, 0, 7, 0, 0, 0, 4, 0, 0, 0, 5, 0, 0, 0];
 
 const REGISTER_BYTES: usize = Reg::BYTES as usize;
 
@@ -99,305 +111,237 @@ const CONTROL_END: usize = CONTROL_START + REGISTER_BYTES;
 
 const MEMORY_START: u16 = 3001;
 
-const DIGEST_FACTOR: u64 = 16777619;
+const DIGEST_FACTOR: u32 = 16777619;
 
-const DIGEST_LIMIT: u64 = 4294967296;
-
-// A number that names an origin takes two bytes, so each case runs on two files.
+// A number that names an origin takes two bytes, so each case runs on two files, of fixed size. Both go about together, as does a control
+// beside a half or a case: each function shows or fills something else of them, and a struct would only put a name before each.
 #[derive(Clone, Copy)]
 enum Half {
     Low,
     High,
 }
 
-fn half_of(number: u16, half: Half) -> u8 {
-    match half {
-        Half::Low => (number % 256) as u8,
-        Half::High => (number / 256) as u8,
+impl Half {
+    fn of(self, number: u16) -> u8 {
+        let [low, high] = number.to_le_bytes();
+        match self {
+            Half::Low => low,
+            Half::High => high,
+        }
     }
 }
 
-// Every lane becomes the control. An empty one changes nothing.
-fn set_lanes(bytes: &mut [u8], control: &[u8]) {
-    if control.len() == 0 {
-        return;
-    }
-    for i in 0..bytes.len() {
-        bytes[i] = byte_at(control, i % LANE_BYTES);
+// Every lane becomes the control, if there is one.
+fn set_lanes(bytes: &mut [u8], control: Option<Control>) {
+    if let Some(control) = control {
+        for (i, byte) in bytes.iter_mut().enumerate() {
+            *byte = control[i % 16];
+        }
     }
 }
 
 // Byte p is half of the number p + 1, but in register 3 the control's if there is one.
-fn register_file(half: Half, control: &[u8]) -> [u8; RegisterFile::SIZE] {
+fn register_file(half: Half, control: Option<Control>) -> [u8; RegisterFile::SIZE] {
     let mut file = [0u8; RegisterFile::SIZE];
-    for p in 0..RegisterFile::SIZE {
-        file[p] = half_of(p as u16 + 1, half);
+    for (p, byte) in file.iter_mut().enumerate() {
+        *byte = half.of(p as u16 + 1);
     }
     set_lanes(&mut file[CONTROL_START..CONTROL_END], control);
     file
 }
 
 // As many bytes as a u8 can want. Byte j is half of the number 3001 + j, or the control's if there is one.
-fn memory(half: Half, control: &[u8]) -> [u8; 255] {
+fn memory(half: Half, control: Option<Control>) -> [u8; 255] {
     let mut bytes = [0u8; 255];
-    for j in 0..255 {
-        bytes[j] = half_of(MEMORY_START + j as u16, half);
+    for (j, byte) in bytes.iter_mut().enumerate() {
+        *byte = half.of(MEMORY_START + j as u16);
     }
     set_lanes(&mut bytes, control);
     bytes
 }
 
-// What is shown of a decoding, and what its step wants.
-#[derive(Clone, Copy)]
-struct Summary {
-    answer: u32,
-    reason: u32,
-    length: usize,
-    wanted: u8,
-    // Reg::COUNT for a refusal, which has none.
-    destination: u8,
-}
-
-fn summary_of(decoded: Decoded) -> Summary {
+// The memory that a decoding wants: none for a refusal.
+fn wanted(decoded: Result<Instruction, Refusal>) -> u8 {
     match decoded {
-        Decoded::Accepted(x) => {
-            let third = x.third;
-            let destination = x.destination;
-            Summary {
-                answer: 0,
-                reason: 0,
-                length: x.length,
-                wanted: decode::instruction::wanted(third),
-                destination: destination.number(),
-            }
-        }
-        Decoded::Refused(why) => Summary {
-            answer: why.status(),
-            reason: why.reason(),
-            length: 0,
-            wanted: 0,
-            destination: Reg::COUNT,
-        },
+        Ok(x) => decode::instruction::wanted(x.third),
+        Err(_) => 0,
     }
 }
 
 fn step_on(
-    code: &[u8],
-    features: Features,
+    case: Case,
     file: &mut [u8],
     half: Half,
-    control: &[u8],
+    control: Option<Control>,
     wanted: u8,
-) -> Stepped {
-    let masks = MASKS;
+) -> Result<usize, Refusal> {
     let bytes = memory(half, control);
-    let end = wanted as usize;
-    step::step(code, file, &masks, features, &bytes[0..end])
+    step::step(
+        case.code,
+        file,
+        &MASKS,
+        Features(case.features),
+        &bytes[..wanted as usize],
+    )
 }
 
-// The number that the two files' bytes at p make.
-fn number_at(low: &[u8], high: &[u8], p: usize) -> u64
-    ensures { result < 65536 }
-{
-    byte_at(low, p) as u64 + 256 * byte_at(high, p) as u64
+// The number that the two files' bytes make.
+fn number(low: u8, high: u8) -> u32 {
+    u16::from_le_bytes([low, high]) as u32
 }
 
-// Of the numbers in every register but one, in order. The factor is odd, so that a change of one byte always shows.
-fn digest(low: &[u8], high: &[u8], except: u8) -> u64 {
-    let mut d: u64 = 0;
-    for p in 0..RegisterFile::SIZE {
-        if p / REGISTER_BYTES != except as usize {
-            d = (d * DIGEST_FACTOR + number_at(low, high, p)) % DIGEST_LIMIT;
+// Of the numbers in every register but one, in order, modulo 2^32. The factor is odd, so that a change of one byte always shows.
+fn digest(low: &[u8], high: &[u8], except: Option<u8>) -> u32 {
+    let mut d: u32 = 0;
+    for (p, (l, h)) in low.iter().zip(high).enumerate() {
+        if except.is_none_or(|register| p / REGISTER_BYTES != register as usize) {
+            d = d.wrapping_mul(DIGEST_FACTOR).wrapping_add(number(*l, *h));
         }
     }
     d
 }
 
-fn print(rt: &impl Print, text: &str) -> io::Result<()> {
-    rt.print(text)
-}
-
-fn print_number(rt: &impl Print, number: u64) -> io::Result<()> {
-    rt.print(number)
-}
-
-fn print_masks(rt: &impl Print) -> io::Result<()> {
-    print(rt, "masks:")?;
-    for k in 0..8 {
-        print!(rt; " {:x}", MASKS[k])?;
-    }
-    print(rt, "\n")
-}
-
 fn print_head(rt: &impl Print) -> io::Result<()> {
-    print_masks(rt)?;
-    print(
-        rt,
-        "files: byte p is (p + 1) % 256 in the low file and (p + 1) / 256 in the high file\n",
+    print!(rt; "masks:")?;
+    for mask in MASKS {
+        print!(rt; " {mask:x}")?;
+    }
+    println!(rt)?;
+    println!(rt;
+        "files: byte p is (p + 1) % 256 in the low file and (p + 1) / 256 in the high file"
     )?;
-    print(
-        rt,
-        "memory: byte j is (3001 + j) % 256 for the low file and (3001 + j) / 256 for the high file\n",
+    println!(rt;
+        "memory: byte j is (3001 + j) % 256 for the low file and (3001 + j) / 256 for the high file"
     )?;
-    print(
-        rt,
-        "shown: low byte + 256 * high byte, so 0 is zero, p + 1 the byte from offset p, 3001 + j memory byte j\n",
+    println!(rt;
+        "shown: low byte + 256 * high byte, so 0 is zero, p + 1 the byte from offset p, 3001 + j memory byte j"
     )?;
-    print(
-        rt,
-        "digest: from 0, d = (16777619 * d + number) % 4294967296 over the numbers shown, in the order of offsets\n",
+    println!(rt;
+        "digest: from 0, d = (16777619 * d + number) % 4294967296 over the numbers shown, in the order of offsets"
     )
 }
 
 fn print_bytes(rt: &impl Print, bytes: &[u8]) -> io::Result<()> {
-    for i in 0..bytes.len() {
-        print!(rt; " {:02x}", byte_at(bytes, i))?;
+    for byte in bytes {
+        print!(rt; " {byte:02x}")?;
     }
     Ok(())
 }
 
-// An answer's number, with the wrong field's behind a colon if it is for one.
-fn print_answer(rt: &impl Print, answer: u32, reason: u32, length: usize) -> io::Result<()> {
-    print(rt, "answer ")?;
-    print_number(rt, answer as u64)?;
-    if reason > 0 {
-        print(rt, ":")?;
-        print_number(rt, reason as u64)?;
+// An answer's number, with the wrong field's behind a colon if it is for one, and a length.
+fn print_answer(rt: &impl Print, answer: Result<usize, Refusal>) -> io::Result<()> {
+    match answer {
+        Ok(length) => print!(rt; "answer 0, length {length}"),
+        Err(Refusal::Reserved(field)) => {
+            print!(rt;
+                "answer {}:{}, length 0",
+                Refusal::Reserved(field).status(),
+                field.number()
+            )
+        }
+        Err(why) => print!(rt; "answer {}, length 0", why.status()),
     }
-    print(rt, ", length ")?;
-    print_number(rt, length as u64)
 }
 
-fn print_summary(rt: &impl Print, s: Summary) -> io::Result<()> {
-    print(rt, "decode: ")?;
-    print_answer(rt, s.answer, s.reason, s.length)?;
-    print(rt, ", memory ")?;
-    print_number(rt, s.wanted as u64)?;
-    print(rt, "\n")
-}
-
-fn print_stepped(rt: &impl Print, stepped: Stepped) -> io::Result<()> {
-    match stepped {
-        Stepped::Done(length) => print_answer(rt, 0, 0, length)?,
-        Stepped::Refused(why) => print_answer(rt, why.status(), why.reason(), 0)?,
-    }
-    print(rt, "\n")
+fn print_stepped(rt: &impl Print, name: &str, stepped: Result<usize, Refusal>) -> io::Result<()> {
+    print!(rt; "step, {name} file: ")?;
+    print_answer(rt, stepped)?;
+    println!(rt)
 }
 
 fn print_register(rt: &impl Print, low: &[u8], high: &[u8], register: u8) -> io::Result<()> {
-    print(rt, "register ")?;
-    print_number(rt, register as u64)?;
-    print(rt, ":\n")?;
-    for i in 0..REGISTER_BYTES {
-        print(rt, " ")?;
-        print_number(
-            rt,
-            number_at(low, high, REGISTER_BYTES * register as usize + i),
-        )?;
+    println!(rt; "register {register}:")?;
+    let start = REGISTER_BYTES * register as usize;
+    let bytes = low.iter().zip(high).skip(start).take(REGISTER_BYTES);
+    for (i, (l, h)) in bytes.enumerate() {
+        print!(rt; " {}", number(*l, *h))?;
         if i % 16 == 15 {
-            print(rt, "\n")?;
+            println!(rt)?;
         }
     }
     Ok(())
 }
 
-fn print_digests(rt: &impl Print, before: u64, after: u64) -> io::Result<()> {
-    if before == after {
-        print(rt, " unchanged: digest ")?;
-    } else {
-        print(rt, " changed: digest ")?;
-    }
-    print!(rt; "{before:08x} before, {after:08x} after\n")
-}
-
-// Carries out the step on both files, and shows the answers.
-fn step_both(
-    rt: &impl Print,
-    code: &[u8],
-    features: Features,
-    low: &mut [u8],
-    high: &mut [u8],
-    control: &[u8],
-    wanted: u8,
-) -> io::Result<()> {
-    print(rt, "step, low file: ")?;
-    print_stepped(rt, step_on(code, features, low, Half::Low, control, wanted))?;
-    print(rt, "step, high file: ")?;
-    print_stepped(
-        rt,
-        step_on(code, features, high, Half::High, control, wanted),
-    )
-}
-
 // The destination, and which registers the digests are of.
-fn print_contents(rt: &impl Print, low: &[u8], high: &[u8], destination: u8) -> io::Result<()> {
-    if destination < Reg::COUNT {
-        print_register(rt, low, high, destination)?;
-        print(rt, "other")?;
-    } else {
-        print(rt, "all")?;
+fn print_contents(
+    rt: &impl Print,
+    low: &[u8],
+    high: &[u8],
+    destination: Option<u8>,
+) -> io::Result<()> {
+    match destination {
+        Some(register) => {
+            print_register(rt, low, high, register)?;
+            print!(rt; "other registers")
+        }
+        None => print!(rt; "all registers"),
     }
-    print(rt, " registers")
 }
 
-fn run(rt: &impl Print, code: &[u8], features: Features, control: &[u8]) -> io::Result<()> {
+fn run(rt: &impl Print, case: Case, control: Option<Control>) -> io::Result<()> {
     let mut low = register_file(Half::Low, control);
     let mut high = register_file(Half::High, control);
-    let s = summary_of(decode::decode(code, features));
-    print_summary(rt, s)?;
-    let before = digest(&low, &high, s.destination);
-    step_both(rt, code, features, &mut low, &mut high, control, s.wanted)?;
-    print_contents(rt, &low, &high, s.destination)?;
-    print_digests(rt, before, digest(&low, &high, s.destination))
+    let decoded = decode::decode(case.code, Features(case.features));
+    let wanted = wanted(decoded);
+    print!(rt; "decode: ")?;
+    print_answer(rt, decoded.map(|x| x.length))?;
+    println!(rt; ", memory {wanted}")?;
+    let destination = decoded.ok().map(|x| x.destination.number());
+    let before = digest(&low, &high, destination);
+    print_stepped(
+        rt,
+        "low",
+        step_on(case, &mut low, Half::Low, control, wanted),
+    )?;
+    print_stepped(
+        rt,
+        "high",
+        step_on(case, &mut high, Half::High, control, wanted),
+    )?;
+    print_contents(rt, &low, &high, destination)?;
+    let after = digest(&low, &high, destination);
+    let change = if before == after {
+        "unchanged"
+    } else {
+        "changed"
+    };
+    println!(rt; " {change}: digest {before:08x} before, {after:08x} after")
 }
 
-fn row(i: usize) -> [u8; 9]
-    requires { i < 60 }
-    ensures { get_or result 1 0 ≤ 7 }
-{
-    CASES[i]
-}
-
-fn print_title(rt: &impl Print, number: usize, features: u8, control: &[u8]) -> io::Result<()> {
-    print(rt, "\ncase ")?;
-    print_number(rt, number as u64)?;
-    print(rt, " with features ")?;
-    print_number(rt, features as u64)?;
-    if control.len() > 0 {
-        print(rt, ", every lane of register 3 and of memory")?;
-        print_bytes(rt, control)?;
+fn run_case(
+    rt: &impl Print,
+    number: usize,
+    case: Case,
+    control: Option<Control>,
+) -> io::Result<()> {
+    print!(rt; "\ncase {number} with features {}", case.features)?;
+    if let Some(control) = control {
+        print!(rt; ", every lane of register 3 and of memory")?;
+        print_bytes(rt, &control)?;
     }
-    print(rt, ":")
-}
-
-// An empty control is none.
-fn run_case(rt: &impl Print, number: usize, control: &[u8]) -> io::Result<()>
-    requires { (1 ≤ number) × (number ≤ 60) }
-{
-    let case = row(number - 1);
-    let features = case[0];
-    let end = 2 + case[1] as usize;
-    print_title(rt, number, features, control)?;
-    print_bytes(rt, &case[2..end])?;
-    print(rt, "\n")?;
-    run(rt, &case[2..end], Features(features as u32), control)
+    print!(rt; ":")?;
+    print_bytes(rt, case.code)?;
+    println!(rt)?;
+    run(rt, case, control)
 }
 
 // Bytes that name their places are poor controls, so that these cases run once more with others.
-fn run_controlled(rt: &impl Print) -> io::Result<()> {
-    run_case(rt, 13, &QWORDS_2_1)?;
-    run_case(rt, 19, &BYTE_CONTROLS)?;
-    run_case(rt, 28, &DWORDS_3210)?;
-    run_case(rt, 28, &DWORDS_6745)?;
-    run_case(rt, 29, &DWORDS_3210)?;
-    run_case(rt, 29, &DWORDS_6745)?;
-    run_case(rt, 30, &BYTE_CONTROLS)
+fn run_controlled(rt: &impl Print, number: usize, control: Control) -> io::Result<()>
+    requires { (1 ≤ number) × (number ≤ 60) }
+{
+    run_case(rt, number, CASES[number - 1], Some(control))
 }
 
 fn main(rt: HostRuntime) -> io::Result<()> {
     print_head(&rt)?;
-    for i in 0..CASES.len() {
-        run_case(&rt, i + 1, b"")?;
+    for (i, case) in CASES.iter().enumerate() {
+        run_case(&rt, i + 1, *case, None)?;
     }
-    run_controlled(&rt)
+    run_controlled(&rt, 13, QWORDS_2_1)?;
+    run_controlled(&rt, 19, BYTE_CONTROLS)?;
+    run_controlled(&rt, 28, DWORDS_3210)?;
+    run_controlled(&rt, 28, DWORDS_6745)?;
+    run_controlled(&rt, 29, DWORDS_3210)?;
+    run_controlled(&rt, 29, DWORDS_6745)?;
+    run_controlled(&rt, 30, BYTE_CONTROLS)
 }

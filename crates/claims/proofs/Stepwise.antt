@@ -8,12 +8,12 @@ use lib.Dec.{eqb}
 use lib.ListN.{length, drop, length-drop}
 use borrow.Author.Tests.{eqb-true, eqb-false}
 use lib.Seq.{drop-drop}
+use Rattle.std.specs.Prelude.{Result, Ok, Err}
 use Rattle.isa.specs.Kinds.{file_size, code_limit}
+use Rattle.isa.specs.declared.refusal.Refusal.{Refusal}
 use Rattle.isa.specs.declared.refusal.Refusal.TheVariants.{MemoryLength}
 use Rattle.step.specs.Step.{step_of, file_after}
-use Rattle.step.specs.declared.Stepped.{Stepped}
 use Rattle.step.proofs.Laws.{refusal_keeps}
-use Rattle.run.specs.declared.Answer.{Answer}
 use Rattle.run.specs.Split.{stopped}
 use Rattle.run.specs.Run.{without_memory, run_split, files_of, stepped_run, stepped_file, run_of, file_after_run}
 use Rattle.run.proofs.Splits.{empty_cut, zero_cut, no_done}
@@ -26,7 +26,7 @@ module _ (masks : List ℕ) (features : ℕ) where
   Goes code file budget = Stepwise masks features code file budget (ran_of code masks features budget file) (file_after_run code masks features budget file)
 
   -- no step is made: the budget is 0, or the list is at its end
-  rests : (code file : List ℕ) (budget : ℕ) → Passed code masks features file → run_split code features budget ≡ stopped Answer.Done → (0 < budget → length code ≡ 0) → Goes code file budget
+  rests : (code file : List ℕ) (budget : ℕ) → Passed code masks features file → run_split code features budget ≡ stopped (Ok tt) → (0 < budget → length code ≡ 0) → Goes code file budget
   unfolding stepped_run stepped_file files_of
   rests code file budget p s h =
       rw (run_is code masks features file p budget, file_is code masks features file p budget, s)
@@ -49,12 +49,12 @@ module _ (masks : List ℕ) (features : ℕ) where
           short = omega (arith, p.short, length-drop n code);
         }
 
-    stepped : (s : Stepped) → step_of code (length file) (length masks) features 0 ≡ s → Goes code file (1 + k)
-    stepped (Stepped.Refused why) e =
+    stepped : (s : Result ℕ Refusal) → step_of code (length file) (length masks) features 0 ≡ s → Goes code file (1 + k)
+    stepped (Err why) e =
         let same = a_refusal_stays code masks features 1 k file why (rw (one.numbers, e)) in
         rw (same.numbers, one.numbers, e, same.bytes, one.bytes, refusal_keeps code masks features [] file why e)
         (record { within = omega arith; steps = Steps.none; at_the_end = λ d. absurd (no_done why d); refused = λ r d. (omega arith, some, cc) })
-    stepped (Stepped.Done n) e =
+    stepped (Ok n) e =
         let two = in_two_runs code masks features 1 k file (rw (one.numbers, e)) in
         let most : n ≤ length code = rw (one.numbers, e) at (place_within code (length file) (length masks) features 1) in
         let ih = rest (drop n code) after (left n) in

@@ -11,11 +11,11 @@ use lib.Dec.{leb}
 use lib.ListN.{length, get_or, length-map, get_or-map}
 use lib.Seq.{ext_get_or}
 use borrow.Author.Tests.{eq-eqb, le-leb, leb-true}
+use Rattle.std.specs.Prelude.{Ok}
 use Rattle.seq.proofs.Choice.{both_true}
 use Rattle.seq.proofs.Tabulate.{by_lt}
 use Rattle.isa.specs.Kinds.{file_size, mask_count, map_entries, zero_entry, code_limit}
 use Rattle.isa.specs.declared.refusal.Refusal.TheVariants.{MemoryLength}
-use Rattle.run.specs.declared.Answer.{Answer}
 use Rattle.run.specs.Split.{Split}
 use Rattle.run.specs.Run.{whole_budget, without_memory, run_split, files_of, stepped_run, stepped_file, file_after_run}
 use Rattle.run.proofs.Laws.{Passed, run_is, file_is, the_end_stays}
@@ -35,14 +35,14 @@ fine_low [] e p = le_refl zero_entry
 fine_low (a ∷ m) e zero = leb-true a zero_entry (both_true (leb a zero_entry) (fine m) e).0
 fine_low (a ∷ m) e (suc p) = fine_low m (both_true (leb a zero_entry) (fine m) e).1 p
 
-pub applies : (m file : List ℕ) → Map m → length file ≡ file_size → (apply_of m (length file) ≡ Answer.Done) × (file_applied m file ≡ applied m file)
+pub applies : (m file : List ℕ) → Map m → length file ≡ file_size → (apply_of m (length file) ≡ Ok tt) × (file_applied m file ≡ applied m file)
 unfolding apply_of file_applied
 applies m file p e =
     let k = eq-eqb (length m) map_entries p.0 in
     let l = eq-eqb (length file) file_size e in
     let t : fine m ≡ true = p.1 in (rw (k, l, t), rw (k, l, t))
 
-pub composes : (a b out : List ℕ) → Map a → Map b → Output out → (compose_of a b (length out) ≡ Answer.Done) × (map_composed a b out ≡ composed a b)
+pub composes : (a b out : List ℕ) → Map a → Map b → Output out → (compose_of a b (length out) ≡ Ok tt) × (map_composed a b out ≡ composed a b)
 unfolding compose_of map_composed
 composes a b out p q e =
     let k = eq-eqb (length a) map_entries p.0 in
@@ -155,7 +155,7 @@ module _ (masks : List ℕ) (features : ℕ) where
       let f = facts a masks features p in
       accepts (a ++ b) masks features (record { masks_size = f.masks_size; known = f.known; short = h; done = rw (join_split features a b f.done) (facts b masks features q).done })
 
-  join_map : (a b : List ℕ) → (build_split a features).answer ≡ Answer.Done → map_of (a ++ b) masks features ≡ composed (map_of a masks features) (map_of b masks features)
+  join_map : (a b : List ℕ) → (build_split a features).answer ≡ Ok tt → map_of (a ++ b) masks features ≡ composed (map_of a masks features) (map_of b masks features)
   unfolding map_of composed
   join_map a b e =
       let xs = (build_split a features).instructions in

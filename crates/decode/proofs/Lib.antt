@@ -1,6 +1,6 @@
--- The rules that the stages' proofs hand to `search`, and the laws of decoding, which other crates cite.
-mod Compose
+-- The laws of decoding, which other crates cite.
 pub mod Laws
 pub mod Prefixes
 pub mod Reasons
 pub mod Ranges
+pub mod Listed

@@ -1,12 +1,12 @@
 -- The worked cases at the end of docs/RULES.md: what decoding gives and, where the case says so, where the destination's bytes come from. The starred
 -- ones, all with features 31, then further ones: those that are not starred, cases in which two rules meet, and single rules that no starred case
 -- looks at. Then those of request 1. The starred ones hold under all features too.
-use Rattle.std.specs.Prelude.{ℕ, ◌+◌, ◌-◌, ◌*◌, ◌/◌, ◌%◌, ◌≡◌, refl, Bool, true, false, List, [], ◌∷◌, ◌++◌, map, replicate}
+use Rattle.std.specs.Prelude.{ℕ, ◌+◌, ◌-◌, ◌*◌, ◌/◌, ◌%◌, ◌≡◌, refl, Bool, true, false, List, [], ◌∷◌, ◌++◌, map, replicate, Option, Some, None, Result, Ok, Err}
 use Rattle.seq.specs.Tabulate.{tabulate}
 use Rattle.isa.specs.Kinds.{register_bytes, zero_entry}
 use Rattle.isa.specs.Features.{all_features, has_feature}
 use Rattle.isa.specs.Operands as Names
-use Rattle.isa.specs.Operands.{width_of, element_of, digits_of, half_of, move_from, control_of}
+use Rattle.isa.specs.Operands.{width_of}
 use Rattle.isa.specs.Table.{rows, find_in, matches_row, matches_w}
 use Rattle.isa.specs.declared.operands.Mnemonic.{Mnemonic}
 use Rattle.isa.specs.declared.operands.Encoding.{Encoding}
@@ -26,33 +26,32 @@ use Rattle.isa.specs.declared.refusal.Refusal.TheVariants.{Argument, Truncated, 
 use Rattle.decode.specs.Prefix.{prefix_size, prefix_of, fixed_bits, head_of}
 use Rattle.decode.specs.Modrm.{sib_size, displacement_size}
 use Rattle.decode.specs.Reserved.{wrong_w, wrong_width, wrong_vvvv, wrong_broadcast, wrong_zeroing, check_of, needed_of, enough_of}
-use Rattle.decode.specs.Instruction.{encoding_of, first_of, third_of, immediate_of, instruction_of}
+use Rattle.decode.specs.Instruction.{first_of, third_of, immediate_of, instruction_of}
 use Rattle.decode.specs.Decode.{finish_of, on_total, on_row, on_head, known_of, decode_of, answer_of}
-use Rattle.decode.specs.declared.instruction.First.{First}
 use Rattle.decode.specs.declared.instruction.Third.{Third}
-use Rattle.decode.specs.declared.instruction.Immediate.{Immediate}
-use Rattle.decode.specs.declared.instruction.Decoded.{Decoded}
-use Rattle.decode.specs.declared.instruction.Decoded.TheVariants.{Accepted, Refused}
+use Rattle.decode.specs.declared.instruction.Instruction.{Instruction}
+use Rattle.isa.specs.declared.kinds.Reg.{Reg}
+use Rattle.isa.specs.declared.refusal.Refusal.{Refusal}
 
 -- `places` has, for each of the destination's 64 bytes, an offset in the register file or the entry for zero; no places where the case does not say
 pub record Case : Type 0 where
   pub bytes : List ℕ
   pub features : ℕ
   pub answer : ℕ
-  pub gives : Decoded
+  pub gives : Result Instruction Refusal
   pub places : List ℕ
 
-abbrev pub case : List ℕ → ℕ → ℕ → Decoded → Case
+abbrev pub case : List ℕ → ℕ → ℕ → Result Instruction Refusal → Case
 case bytes features answer gives = record { bytes = bytes; features = features; answer = answer; gives = gives; places = [] }
 
-abbrev pub moving : List ℕ → ℕ → Decoded → List ℕ → Case
+abbrev pub moving : List ℕ → ℕ → Result Instruction Refusal → List ℕ → Case
 moving bytes features gives places = record { bytes = bytes; features = features; answer = 0; gives = gives; places = places }
 
 -- ---- what decoding gives
 
 -- answer 4, with the field that is wrong
-abbrev pub wrong : Field → Decoded
-wrong field = Refused (Reserved field)
+abbrev pub wrong : Field → Result Instruction Refusal
+wrong field = Err (Reserved field)
 
 -- an instruction of the table: its name, element, move and control
 pub record Listed : Type 0 where
@@ -98,9 +97,9 @@ abbrev pub vpshufb : Listed
 vpshufb = record { name = Names.vpshufb; element = Byte; moves = InLaneOrZero; control = Control.Third }
 
 -- encoding, width, destination, first source, third operand, mask, z, b, immediate, length
-abbrev pub operands : Listed → Encoding → Width → ℕ → First → Third → ℕ → Bool → Bool → Immediate → ℕ → Decoded
+abbrev pub operands : Listed → Encoding → Width → ℕ → Option Reg → Third → ℕ → Bool → Bool → Option ℕ → ℕ → Result Instruction Refusal
 operands listed encoding width destination first third mask z b immediate length =
-    Accepted (record {
+    Ok (record {
       mnemonic = listed.name;
       encoding = encoding;
       width = width;
@@ -120,22 +119,22 @@ operands listed encoding width destination first third mask z b immediate length
 abbrev pub register : ℕ → Third
 register r = Third.Register (record { 0 = r })
 
-abbrev pub source : ℕ → First
-source r = First.Register (record { 0 = r })
+abbrev pub source : ℕ → Option Reg
+source r = Some (record { 0 = r })
 
 -- a form with an immediate and no first source, and a register form of three registers
-abbrev pub by_immediate : Listed → Encoding → Width → ℕ → Third → ℕ → Bool → Bool → ℕ → ℕ → Decoded
+abbrev pub by_immediate : Listed → Encoding → Width → ℕ → Third → ℕ → Bool → Bool → ℕ → ℕ → Result Instruction Refusal
 by_immediate listed encoding width destination third mask z b immediate length =
-    operands listed encoding width destination First.Absent third mask z b (Immediate.Byte immediate) length
+    operands listed encoding width destination None third mask z b (Some immediate) length
 
-abbrev pub of_three : Listed → Encoding → Width → ℕ → ℕ → ℕ → Immediate → ℕ → Decoded
+abbrev pub of_three : Listed → Encoding → Width → ℕ → ℕ → ℕ → Option ℕ → ℕ → Result Instruction Refusal
 of_three listed encoding width destination first third immediate length =
     operands listed encoding width destination (source first) (register third) 0 false false immediate length
 
 -- an EVEX form of 512 bits with a first source and a broadcast element of n bytes
-abbrev pub repeating : Listed → ℕ → ℕ → ℕ → ℕ → Decoded
+abbrev pub repeating : Listed → ℕ → ℕ → ℕ → ℕ → Result Instruction Refusal
 repeating listed destination first n length =
-    operands listed Evex Bits512 destination (source first) (Third.Memory n) 0 false true Immediate.Absent length
+    operands listed Evex Bits512 destination (source first) (Third.Memory n) 0 false true None length
 
 -- ---- where bytes come from
 
@@ -158,7 +157,7 @@ turned r l = dword r (4 * l + 3) ++ dword r (4 * l + 2) ++ dword r (4 * l + 1) +
 unfoldable pub starred_cases : List Case
 starred_cases =
     moving (0xC5 ∷ 0xF9 ∷ 0x70 ∷ 0xCA ∷ 0x1B ∷ []) 31 (by_immediate vpshufd Vex Bits128 1 (register 2) 0 false false 0x1B 5) (turned 2 0 ++ cleared 48)
-    ∷ case (0xC5 ∷ 0xF9 ∷ 0x70 ∷ 0xCA ∷ []) 31 2 (Refused Truncated)
+    ∷ case (0xC5 ∷ 0xF9 ∷ 0x70 ∷ 0xCA ∷ []) 31 2 (Err Truncated)
     ∷ case (0xC5 ∷ 0xE9 ∷ 0x70 ∷ 0xCA ∷ 0x1B ∷ []) 31 4 (wrong Vvvv)
     ∷ case (0x62 ∷ 0xF1 ∷ 0x7D ∷ 0xC9 ∷ 0x70 ∷ 0xCA ∷ 0x1B ∷ []) 31 0 (by_immediate vpshufd Evex Bits512 1 (register 2) 1 true false 0x1B 7)
     ∷ case (0x62 ∷ 0xF1 ∷ 0x7D ∷ 0xC8 ∷ 0x70 ∷ 0xCA ∷ 0x1B ∷ []) 31 4 (wrong Zeroing)
@@ -180,43 +179,43 @@ starred_cases =
 -- the one row of document 01's that no case above has
 unfoldable pub further_cases : List Case
 further_cases =
-    case (0xC4 ∷ 0xE2 ∷ 0x69 ∷ 0x0D ∷ 0xCB ∷ []) 31 0 (of_three vpermilpd_register Vex Bits128 1 2 3 Immediate.Absent 5)
-    ∷ moving (0xC5 ∷ 0xE8 ∷ 0x14 ∷ 0xCB ∷ []) 31 (of_three vunpcklps Vex Bits128 1 2 3 Immediate.Absent 4) (dword 2 0 ++ dword 3 0 ++ dword 2 1 ++ dword 3 1 ++ cleared 48)
+    case (0xC4 ∷ 0xE2 ∷ 0x69 ∷ 0x0D ∷ 0xCB ∷ []) 31 0 (of_three vpermilpd_register Vex Bits128 1 2 3 None 5)
+    ∷ moving (0xC5 ∷ 0xE8 ∷ 0x14 ∷ 0xCB ∷ []) 31 (of_three vunpcklps Vex Bits128 1 2 3 None 4) (dword 2 0 ++ dword 3 0 ++ dword 2 1 ++ dword 3 1 ++ cleared 48)
     ∷ case (0xC5 ∷ 0xF9 ∷ 0x70 ∷ 0x44 ∷ 0x88 ∷ 0x10 ∷ 0x1B ∷ []) 31 0 (by_immediate vpshufd Vex Bits128 0 (Third.Memory 16) 0 false false 0x1B 7)
-    ∷ moving (0xC4 ∷ 0xE3 ∷ 0x6D ∷ 0x06 ∷ 0xCB ∷ 0x88 ∷ []) 31 (of_three vperm2f128 Vex Bits256 1 2 3 (Immediate.Byte 0x88) 6) (cleared 64)
-    ∷ moving (0xC4 ∷ 0xE3 ∷ 0x6D ∷ 0x06 ∷ 0xCB ∷ 0x21 ∷ []) 31 (of_three vperm2f128 Vex Bits256 1 2 3 (Immediate.Byte 0x21) 6)
+    ∷ moving (0xC4 ∷ 0xE3 ∷ 0x6D ∷ 0x06 ∷ 0xCB ∷ 0x88 ∷ []) 31 (of_three vperm2f128 Vex Bits256 1 2 3 (Some 0x88) 6) (cleared 64)
+    ∷ moving (0xC4 ∷ 0xE3 ∷ 0x6D ∷ 0x06 ∷ 0xCB ∷ 0x21 ∷ []) 31 (of_three vperm2f128 Vex Bits256 1 2 3 (Some 0x21) 6)
     (qword 2 2 ++ qword 2 3 ++ qword 3 0 ++ qword 3 1 ++ cleared 32)
     ∷ moving (0xC5 ∷ 0xF9 ∷ 0x70 ∷ 0xC9 ∷ 0x1B ∷ []) 31 (by_immediate vpshufd Vex Bits128 1 (register 1) 0 false false 0x1B 5) (turned 1 0 ++ cleared 48)
     ∷ case (0xC5 ∷ 0x79 ∷ 0x70 ∷ 0xCA ∷ 0x1B ∷ []) 31 0 (by_immediate vpshufd Vex Bits128 9 (register 2) 0 false false 0x1B 5)
     ∷ case (0xC4 ∷ 0x43 ∷ 0x7D ∷ 0x05 ∷ 0xCA ∷ 0x05 ∷ []) 31 0 (by_immediate vpermilpd Vex Bits256 9 (register 10) 0 false false 0x05 6)
     ∷ case (0xC4 ∷ 0xA3 ∷ 0x7D ∷ 0x05 ∷ 0xCA ∷ 0x05 ∷ []) 31 0 (by_immediate vpermilpd Vex Bits256 1 (register 2) 0 false false 0x05 6)
-    ∷ case (0x62 ∷ 0xF2 ∷ 0x6D ∷ 0x40 ∷ 0x8D ∷ 0xCB ∷ []) 31 0 (of_three vpermb Evex Bits512 1 18 3 Immediate.Absent 6)
+    ∷ case (0x62 ∷ 0xF2 ∷ 0x6D ∷ 0x40 ∷ 0x8D ∷ 0xCB ∷ []) 31 0 (of_three vpermb Evex Bits512 1 18 3 None 6)
     ∷ case (0xC5 ∷ 0xF9 ∷ 0x70 ∷ 0x0D ∷ 1 ∷ 2 ∷ 3 ∷ 4 ∷ 0x1B ∷ []) 31 0 (by_immediate vpshufd Vex Bits128 1 (Third.Memory 16) 0 false false 0x1B 9)
     ∷ case (0xC5 ∷ 0xFD ∷ 0x70 ∷ 0x0C ∷ 0x25 ∷ 1 ∷ 2 ∷ 3 ∷ 4 ∷ 0x1B ∷ []) 31 0 (by_immediate vpshufd Vex Bits256 1 (Third.Memory 32) 0 false false 0x1B 10)
     ∷ case (0xC5 ∷ 0xF9 ∷ 0x70 ∷ 0x0C ∷ 0x24 ∷ 0x1B ∷ []) 31 0 (by_immediate vpshufd Vex Bits128 1 (Third.Memory 16) 0 false false 0x1B 6)
     ∷ case (0xC5 ∷ 0xF9 ∷ 0x70 ∷ 0x88 ∷ 1 ∷ 2 ∷ 3 ∷ 4 ∷ 0x1B ∷ []) 31 0 (by_immediate vpshufd Vex Bits128 1 (Third.Memory 16) 0 false false 0x1B 9)
-    ∷ case (0x62 ∷ 0xF1 ∷ 0xFD ∷ 0x18 ∷ 0x05 ∷ []) 31 3 (Refused Unlisted)
+    ∷ case (0x62 ∷ 0xF1 ∷ 0xFD ∷ 0x18 ∷ 0x05 ∷ []) 31 3 (Err Unlisted)
     ∷ case (0x62 ∷ 0xF3 ∷ 0xFD ∷ 0x18 ∷ 0x05 ∷ 0x08 ∷ 0x01 ∷ []) 31 0 (by_immediate vpermilpd Evex Bits128 1 (Third.Memory 8) 0 false true 0x01 7)
-    ∷ case [] 64 1 (Refused Argument)
-    ∷ case [] 63 2 (Refused Truncated)
+    ∷ case [] 64 1 (Err Argument)
+    ∷ case [] 63 2 (Err Truncated)
     ∷ case (0x62 ∷ 0xFD ∷ 0x7D ∷ 0x48 ∷ 0xFF ∷ []) 31 4 (wrong FixedBits)
-    ∷ case (0x62 ∷ 0xF2 ∷ 0xED ∷ 0x48 ∷ 0x8D ∷ 0xCB ∷ []) 31 3 (Refused Unlisted)
-    ∷ case (0x62 ∷ 0xF2 ∷ 0x6D ∷ 0x48 ∷ 0x0D ∷ 0xCB ∷ []) 31 3 (Refused Unlisted)
-    ∷ case (0x62 ∷ 0xF2 ∷ 0xED ∷ 0x48 ∷ 0x0D ∷ 0xCB ∷ []) 31 0 (of_three vpermilpd_register Evex Bits512 1 2 3 Immediate.Absent 6)
-    ∷ case (0xC4 ∷ 0xE3 ∷ 0x69 ∷ 0x06 ∷ 0xCB ∷ []) 31 2 (Refused Truncated)
-    ∷ case (0xC5 ∷ 0xFD ∷ 0x70 ∷ 0xCA ∷ []) 1 2 (Refused Truncated)
+    ∷ case (0x62 ∷ 0xF2 ∷ 0xED ∷ 0x48 ∷ 0x8D ∷ 0xCB ∷ []) 31 3 (Err Unlisted)
+    ∷ case (0x62 ∷ 0xF2 ∷ 0x6D ∷ 0x48 ∷ 0x0D ∷ 0xCB ∷ []) 31 3 (Err Unlisted)
+    ∷ case (0x62 ∷ 0xF2 ∷ 0xED ∷ 0x48 ∷ 0x0D ∷ 0xCB ∷ []) 31 0 (of_three vpermilpd_register Evex Bits512 1 2 3 None 6)
+    ∷ case (0xC4 ∷ 0xE3 ∷ 0x69 ∷ 0x06 ∷ 0xCB ∷ []) 31 2 (Err Truncated)
+    ∷ case (0xC5 ∷ 0xFD ∷ 0x70 ∷ 0xCA ∷ []) 1 2 (Err Truncated)
     ∷ case (0xC4 ∷ 0xE3 ∷ 0xFD ∷ 0x05 ∷ 0xCA ∷ 0x05 ∷ []) 31 4 (wrong W)
     ∷ case (0x62 ∷ 0xF1 ∷ 0x7D ∷ 0x40 ∷ 0x70 ∷ 0xCA ∷ 0x1B ∷ []) 31 4 (wrong Vvvv)
     ∷ case (0xC5 ∷ 0xED ∷ 0x70 ∷ 0xCA ∷ 0x1B ∷ []) 0 4 (wrong Vvvv)
-    ∷ case (0xC5 ∷ 0xFD ∷ 0x70 ∷ 0xCA ∷ 0x1B ∷ []) 1 5 (Refused Feature)
+    ∷ case (0xC5 ∷ 0xFD ∷ 0x70 ∷ 0xCA ∷ 0x1B ∷ []) 1 5 (Err Feature)
     ∷ case (0xC5 ∷ 0xFD ∷ 0x70 ∷ 0xCA ∷ 0x1B ∷ []) 3 0 (by_immediate vpshufd Vex Bits256 1 (register 2) 0 false false 0x1B 5)
-    ∷ case (0x62 ∷ 0xF2 ∷ 0x6D ∷ 0x48 ∷ 0x8D ∷ 0xCB ∷ []) 5 5 (Refused Feature)
-    ∷ case (0x62 ∷ 0xF2 ∷ 0x6D ∷ 0x48 ∷ 0x8D ∷ 0xCB ∷ []) 21 0 (of_three vpermb Evex Bits512 1 2 3 Immediate.Absent 6)
-    ∷ case (0x62 ∷ 0xF2 ∷ 0x6D ∷ 0x28 ∷ 0x8D ∷ 0xCB ∷ []) 21 5 (Refused Feature)
-    ∷ case (0x62 ∷ 0xF2 ∷ 0x6D ∷ 0x28 ∷ 0x8D ∷ 0xCB ∷ []) 29 0 (of_three vpermb Evex Bits256 1 2 3 Immediate.Absent 6)
+    ∷ case (0x62 ∷ 0xF2 ∷ 0x6D ∷ 0x48 ∷ 0x8D ∷ 0xCB ∷ []) 5 5 (Err Feature)
+    ∷ case (0x62 ∷ 0xF2 ∷ 0x6D ∷ 0x48 ∷ 0x8D ∷ 0xCB ∷ []) 21 0 (of_three vpermb Evex Bits512 1 2 3 None 6)
+    ∷ case (0x62 ∷ 0xF2 ∷ 0x6D ∷ 0x28 ∷ 0x8D ∷ 0xCB ∷ []) 21 5 (Err Feature)
+    ∷ case (0x62 ∷ 0xF2 ∷ 0x6D ∷ 0x28 ∷ 0x8D ∷ 0xCB ∷ []) 29 0 (of_three vpermb Evex Bits256 1 2 3 None 6)
     ∷ case (0xC5 ∷ 0xF9 ∷ 0x70 ∷ 0xCA ∷ 0x1B ∷ []) 1 0 (by_immediate vpshufd Vex Bits128 1 (register 2) 0 false false 0x1B 5)
     ∷ case (0x62 ∷ 0xF1 ∷ 0x7D ∷ 0x48 ∷ 0x70 ∷ 0xCA ∷ 0x1B ∷ []) 5 0 (by_immediate vpshufd Evex Bits512 1 (register 2) 0 false false 0x1B 7)
-    ∷ case (0x62 ∷ 0xF1 ∷ 0x6C ∷ 0x48 ∷ 0x14 ∷ 0xCB ∷ []) 31 0 (of_three vunpcklps Evex Bits512 1 2 3 Immediate.Absent 6)
+    ∷ case (0x62 ∷ 0xF1 ∷ 0x6C ∷ 0x48 ∷ 0x14 ∷ 0xCB ∷ []) 31 0 (of_three vunpcklps Evex Bits512 1 2 3 None 6)
     ∷ []
 
 -- request 1, cases 17 to 30: VUNPCKHPS; VPERMILPS by 1B, which moves as VPSHUFD by 1B; VPSHUFB with either W, with b, and without AVX512BW; VUNPCKLPD
@@ -225,42 +224,42 @@ further_cases =
 -- AVX512VL with it at 128 and 256 bits
 unfoldable pub requested_cases : List Case
 requested_cases =
-    moving (0xC5 ∷ 0xE8 ∷ 0x15 ∷ 0xCB ∷ []) 63 (of_three vunpckhps Vex Bits128 1 2 3 Immediate.Absent 4) (dword 2 2 ++ dword 3 2 ++ dword 2 3 ++ dword 3 3 ++ cleared 48)
+    moving (0xC5 ∷ 0xE8 ∷ 0x15 ∷ 0xCB ∷ []) 63 (of_three vunpckhps Vex Bits128 1 2 3 None 4) (dword 2 2 ++ dword 3 2 ++ dword 2 3 ++ dword 3 3 ++ cleared 48)
     ∷ moving (0xC4 ∷ 0xE3 ∷ 0x79 ∷ 0x04 ∷ 0xCA ∷ 0x1B ∷ []) 63 (by_immediate vpermilps Vex Bits128 1 (register 2) 0 false false 0x1B 6) (turned 2 0 ++ cleared 48)
-    ∷ case (0x62 ∷ 0xF2 ∷ 0x6D ∷ 0x48 ∷ 0x00 ∷ 0xCB ∷ []) 63 0 (of_three vpshufb Evex Bits512 1 2 3 Immediate.Absent 6)
-    ∷ case (0x62 ∷ 0xF2 ∷ 0xED ∷ 0x48 ∷ 0x00 ∷ 0xCB ∷ []) 63 0 (of_three vpshufb Evex Bits512 1 2 3 Immediate.Absent 6)
+    ∷ case (0x62 ∷ 0xF2 ∷ 0x6D ∷ 0x48 ∷ 0x00 ∷ 0xCB ∷ []) 63 0 (of_three vpshufb Evex Bits512 1 2 3 None 6)
+    ∷ case (0x62 ∷ 0xF2 ∷ 0xED ∷ 0x48 ∷ 0x00 ∷ 0xCB ∷ []) 63 0 (of_three vpshufb Evex Bits512 1 2 3 None 6)
     ∷ case (0x62 ∷ 0xF2 ∷ 0x6D ∷ 0x58 ∷ 0x00 ∷ 0x08 ∷ []) 63 4 (wrong Broadcast)
-    ∷ case (0x62 ∷ 0xF2 ∷ 0x6D ∷ 0x48 ∷ 0x00 ∷ 0xCB ∷ []) 31 5 (Refused Feature)
-    ∷ moving (0xC5 ∷ 0xE9 ∷ 0x14 ∷ 0xCB ∷ []) 63 (of_three vunpcklpd Vex Bits128 1 2 3 Immediate.Absent 4) (qword 2 0 ++ qword 3 0 ++ cleared 48)
-    ∷ moving (0xC4 ∷ 0xE1 ∷ 0xE9 ∷ 0x14 ∷ 0xCB ∷ []) 63 (of_three vunpcklpd Vex Bits128 1 2 3 Immediate.Absent 5) (qword 2 0 ++ qword 3 0 ++ cleared 48)
-    ∷ case (0x62 ∷ 0xF1 ∷ 0x6D ∷ 0x48 ∷ 0x14 ∷ 0xCB ∷ []) 63 3 (Refused Unlisted)
-    ∷ moving (0x62 ∷ 0xF1 ∷ 0xED ∷ 0x48 ∷ 0x14 ∷ 0xCB ∷ []) 63 (of_three vunpcklpd Evex Bits512 1 2 3 Immediate.Absent 6)
+    ∷ case (0x62 ∷ 0xF2 ∷ 0x6D ∷ 0x48 ∷ 0x00 ∷ 0xCB ∷ []) 31 5 (Err Feature)
+    ∷ moving (0xC5 ∷ 0xE9 ∷ 0x14 ∷ 0xCB ∷ []) 63 (of_three vunpcklpd Vex Bits128 1 2 3 None 4) (qword 2 0 ++ qword 3 0 ++ cleared 48)
+    ∷ moving (0xC4 ∷ 0xE1 ∷ 0xE9 ∷ 0x14 ∷ 0xCB ∷ []) 63 (of_three vunpcklpd Vex Bits128 1 2 3 None 5) (qword 2 0 ++ qword 3 0 ++ cleared 48)
+    ∷ case (0x62 ∷ 0xF1 ∷ 0x6D ∷ 0x48 ∷ 0x14 ∷ 0xCB ∷ []) 63 3 (Err Unlisted)
+    ∷ moving (0x62 ∷ 0xF1 ∷ 0xED ∷ 0x48 ∷ 0x14 ∷ 0xCB ∷ []) 63 (of_three vunpcklpd Evex Bits512 1 2 3 None 6)
     (qword 2 0 ++ qword 3 0 ++ qword 2 2 ++ qword 3 2 ++ qword 2 4 ++ qword 3 4 ++ qword 2 6 ++ qword 3 6)
-    ∷ moving (0xC5 ∷ 0xE9 ∷ 0x15 ∷ 0xCB ∷ []) 63 (of_three vunpckhpd Vex Bits128 1 2 3 Immediate.Absent 4) (qword 2 1 ++ qword 3 1 ++ cleared 48)
-    ∷ case (0x62 ∷ 0xF2 ∷ 0x6D ∷ 0x48 ∷ 0x0C ∷ 0xCB ∷ []) 63 0 (of_three vpermilps_register Evex Bits512 1 2 3 Immediate.Absent 6)
+    ∷ moving (0xC5 ∷ 0xE9 ∷ 0x15 ∷ 0xCB ∷ []) 63 (of_three vunpckhpd Vex Bits128 1 2 3 None 4) (qword 2 1 ++ qword 3 1 ++ cleared 48)
+    ∷ case (0x62 ∷ 0xF2 ∷ 0x6D ∷ 0x48 ∷ 0x0C ∷ 0xCB ∷ []) 63 0 (of_three vpermilps_register Evex Bits512 1 2 3 None 6)
     ∷ case (0x62 ∷ 0xF2 ∷ 0x6D ∷ 0x58 ∷ 0x0C ∷ 0x08 ∷ []) 63 0 (repeating vpermilps_register 1 2 4 6)
-    ∷ case (0x62 ∷ 0xF2 ∷ 0x6D ∷ 0x49 ∷ 0x00 ∷ 0xCB ∷ []) 63 0 (operands vpshufb Evex Bits512 1 (source 2) (register 3) 1 false false Immediate.Absent 6)
-    ∷ moving (0x62 ∷ 0xF1 ∷ 0xED ∷ 0x48 ∷ 0x15 ∷ 0xCB ∷ []) 63 (of_three vunpckhpd Evex Bits512 1 2 3 Immediate.Absent 6)
+    ∷ case (0x62 ∷ 0xF2 ∷ 0x6D ∷ 0x49 ∷ 0x00 ∷ 0xCB ∷ []) 63 0 (operands vpshufb Evex Bits512 1 (source 2) (register 3) 1 false false None 6)
+    ∷ moving (0x62 ∷ 0xF1 ∷ 0xED ∷ 0x48 ∷ 0x15 ∷ 0xCB ∷ []) 63 (of_three vunpckhpd Evex Bits512 1 2 3 None 6)
     (qword 2 1 ++ qword 3 1 ++ qword 2 3 ++ qword 3 3 ++ qword 2 5 ++ qword 3 5 ++ qword 2 7 ++ qword 3 7)
-    ∷ case (0xC5 ∷ 0xED ∷ 0x15 ∷ 0xCB ∷ []) 63 0 (of_three vunpckhpd Vex Bits256 1 2 3 Immediate.Absent 4)
-    ∷ case (0xC4 ∷ 0xE2 ∷ 0x6D ∷ 0x0C ∷ 0xCB ∷ []) 63 0 (of_three vpermilps_register Vex Bits256 1 2 3 Immediate.Absent 5)
-    ∷ case (0xC4 ∷ 0xE2 ∷ 0xE9 ∷ 0x00 ∷ 0xCB ∷ []) 63 0 (of_three vpshufb Vex Bits128 1 2 3 Immediate.Absent 5)
+    ∷ case (0xC5 ∷ 0xED ∷ 0x15 ∷ 0xCB ∷ []) 63 0 (of_three vunpckhpd Vex Bits256 1 2 3 None 4)
+    ∷ case (0xC4 ∷ 0xE2 ∷ 0x6D ∷ 0x0C ∷ 0xCB ∷ []) 63 0 (of_three vpermilps_register Vex Bits256 1 2 3 None 5)
+    ∷ case (0xC4 ∷ 0xE2 ∷ 0xE9 ∷ 0x00 ∷ 0xCB ∷ []) 63 0 (of_three vpshufb Vex Bits128 1 2 3 None 5)
     ∷ case (0xC4 ∷ 0xE3 ∷ 0xF9 ∷ 0x04 ∷ 0xCA ∷ 0x1B ∷ []) 63 4 (wrong W)
     ∷ case (0xC4 ∷ 0xE3 ∷ 0x69 ∷ 0x04 ∷ 0xCA ∷ 0x1B ∷ []) 63 4 (wrong Vvvv)
-    ∷ case (0x62 ∷ 0xF3 ∷ 0xFD ∷ 0x48 ∷ 0x04 ∷ 0xCA ∷ 0x1B ∷ []) 63 3 (Refused Unlisted)
-    ∷ case (0x62 ∷ 0xF1 ∷ 0xEC ∷ 0x48 ∷ 0x15 ∷ 0xCB ∷ []) 63 3 (Refused Unlisted)
+    ∷ case (0x62 ∷ 0xF3 ∷ 0xFD ∷ 0x48 ∷ 0x04 ∷ 0xCA ∷ 0x1B ∷ []) 63 3 (Err Unlisted)
+    ∷ case (0x62 ∷ 0xF1 ∷ 0xEC ∷ 0x48 ∷ 0x15 ∷ 0xCB ∷ []) 63 3 (Err Unlisted)
     ∷ case (0x62 ∷ 0xF3 ∷ 0x7D ∷ 0x58 ∷ 0x04 ∷ 0x08 ∷ 0x1B ∷ []) 63 0 (by_immediate vpermilps Evex Bits512 1 (Third.Memory 4) 0 false true 0x1B 7)
     ∷ case (0x62 ∷ 0xF1 ∷ 0x6C ∷ 0x58 ∷ 0x15 ∷ 0x08 ∷ []) 63 0 (repeating vunpckhps 1 2 4 6)
     ∷ case (0x62 ∷ 0xF1 ∷ 0xED ∷ 0x58 ∷ 0x14 ∷ 0x08 ∷ []) 63 0 (repeating vunpcklpd 1 2 8 6)
     ∷ case (0x62 ∷ 0xF1 ∷ 0xED ∷ 0x58 ∷ 0x15 ∷ 0x08 ∷ []) 63 0 (repeating vunpckhpd 1 2 8 6)
-    ∷ case (0xC4 ∷ 0xE2 ∷ 0x69 ∷ 0x00 ∷ 0xCB ∷ []) 1 0 (of_three vpshufb Vex Bits128 1 2 3 Immediate.Absent 5)
-    ∷ case (0xC4 ∷ 0xE2 ∷ 0x6D ∷ 0x00 ∷ 0xCB ∷ []) 1 5 (Refused Feature)
-    ∷ case (0xC4 ∷ 0xE2 ∷ 0x6D ∷ 0x00 ∷ 0xCB ∷ []) 3 0 (of_three vpshufb Vex Bits256 1 2 3 Immediate.Absent 5)
-    ∷ case (0x62 ∷ 0xF2 ∷ 0x6D ∷ 0x48 ∷ 0x00 ∷ 0xCB ∷ []) 37 0 (of_three vpshufb Evex Bits512 1 2 3 Immediate.Absent 6)
-    ∷ case (0x62 ∷ 0xF2 ∷ 0x6D ∷ 0x08 ∷ 0x00 ∷ 0xCB ∷ []) 37 5 (Refused Feature)
-    ∷ case (0x62 ∷ 0xF2 ∷ 0x6D ∷ 0x08 ∷ 0x00 ∷ 0xCB ∷ []) 45 0 (of_three vpshufb Evex Bits128 1 2 3 Immediate.Absent 6)
-    ∷ case (0x62 ∷ 0xF2 ∷ 0x6D ∷ 0x28 ∷ 0x00 ∷ 0xCB ∷ []) 37 5 (Refused Feature)
-    ∷ case (0x62 ∷ 0xF2 ∷ 0x6D ∷ 0x28 ∷ 0x00 ∷ 0xCB ∷ []) 45 0 (of_three vpshufb Evex Bits256 1 2 3 Immediate.Absent 6)
+    ∷ case (0xC4 ∷ 0xE2 ∷ 0x69 ∷ 0x00 ∷ 0xCB ∷ []) 1 0 (of_three vpshufb Vex Bits128 1 2 3 None 5)
+    ∷ case (0xC4 ∷ 0xE2 ∷ 0x6D ∷ 0x00 ∷ 0xCB ∷ []) 1 5 (Err Feature)
+    ∷ case (0xC4 ∷ 0xE2 ∷ 0x6D ∷ 0x00 ∷ 0xCB ∷ []) 3 0 (of_three vpshufb Vex Bits256 1 2 3 None 5)
+    ∷ case (0x62 ∷ 0xF2 ∷ 0x6D ∷ 0x48 ∷ 0x00 ∷ 0xCB ∷ []) 37 0 (of_three vpshufb Evex Bits512 1 2 3 None 6)
+    ∷ case (0x62 ∷ 0xF2 ∷ 0x6D ∷ 0x08 ∷ 0x00 ∷ 0xCB ∷ []) 37 5 (Err Feature)
+    ∷ case (0x62 ∷ 0xF2 ∷ 0x6D ∷ 0x08 ∷ 0x00 ∷ 0xCB ∷ []) 45 0 (of_three vpshufb Evex Bits128 1 2 3 None 6)
+    ∷ case (0x62 ∷ 0xF2 ∷ 0x6D ∷ 0x28 ∷ 0x00 ∷ 0xCB ∷ []) 37 5 (Err Feature)
+    ∷ case (0x62 ∷ 0xF2 ∷ 0x6D ∷ 0x28 ∷ 0x00 ∷ 0xCB ∷ []) 45 0 (of_three vpshufb Evex Bits256 1 2 3 None 6)
     ∷ []
 
 -- request 3, cases 31 to 44: the fixed bits and W by themselves, as the other fields are in the cases above; then two wrong fields at once, every pair
@@ -285,34 +284,34 @@ reserved_cases =
     ∷ case (0x62 ∷ 0xF9 ∷ 0x75 ∷ 0xF8 ∷ 0x70 ∷ 0xCA ∷ 0x1B ∷ []) 63 4 (wrong FixedBits)
     ∷ case (0x62 ∷ 0xF1 ∷ 0x75 ∷ 0xF8 ∷ 0x70 ∷ 0xCA ∷ 0x1B ∷ []) 63 4 (wrong WidthField)
     ∷ case (0x62 ∷ 0xF9 ∷ 0x75 ∷ 0xF8 ∷ 0x70 ∷ []) 63 4 (wrong FixedBits)
-    ∷ case (0x62 ∷ 0xF9 ∷ 0x75 ∷ 0xF8 ∷ []) 63 2 (Refused Truncated)
-    ∷ case (0x62 ∷ 0xF1 ∷ 0x75 ∷ 0xF8 ∷ 0x70 ∷ 0xCA ∷ []) 63 2 (Refused Truncated)
+    ∷ case (0x62 ∷ 0xF9 ∷ 0x75 ∷ 0xF8 ∷ []) 63 2 (Err Truncated)
+    ∷ case (0x62 ∷ 0xF1 ∷ 0x75 ∷ 0xF8 ∷ 0x70 ∷ 0xCA ∷ []) 63 2 (Err Truncated)
     ∷ case (0x62 ∷ 0xF1 ∷ 0x75 ∷ 0xF8 ∷ 0x70 ∷ 0xCA ∷ 0x1B ∷ []) 0 4 (wrong WidthField)
-    ∷ case (0x62 ∷ 0xF1 ∷ 0x75 ∷ 0xF8 ∷ 0x70 ∷ 0xCA ∷ 0x1B ∷ []) 64 1 (Refused Argument)
+    ∷ case (0x62 ∷ 0xF1 ∷ 0x75 ∷ 0xF8 ∷ 0x70 ∷ 0xCA ∷ 0x1B ∷ []) 64 1 (Err Argument)
     ∷ []
 
 -- request 6, cases 45 to 54: each feature without the one that it needs, and AVX512VL alone; all but AVX512F, and all but AVX; no feature at all, which
 -- passes; and a set that is complete. Then, under sets that do not pass, what would be 2, 3, 4 or 5; numbers over the limit; and no bytes with no feature
 unfoldable pub feature_set_cases : List Case
 feature_set_cases =
-    case (0xC5 ∷ 0xFD ∷ 0x70 ∷ 0xCA ∷ 0x1B ∷ []) 2 1 (Refused Argument)
-    ∷ case (0x62 ∷ 0xF1 ∷ 0x7D ∷ 0x48 ∷ 0x70 ∷ 0xCA ∷ 0x1B ∷ []) 4 1 (Refused Argument)
-    ∷ case (0xC5 ∷ 0xF9 ∷ 0x70 ∷ 0xCA ∷ 0x1B ∷ []) 8 1 (Refused Argument)
-    ∷ case (0x62 ∷ 0xF1 ∷ 0x7D ∷ 0x28 ∷ 0x70 ∷ 0xCA ∷ 0x1B ∷ []) 9 1 (Refused Argument)
-    ∷ case (0x62 ∷ 0xF2 ∷ 0x6D ∷ 0x48 ∷ 0x8D ∷ 0xCB ∷ []) 17 1 (Refused Argument)
-    ∷ case (0x62 ∷ 0xF2 ∷ 0x6D ∷ 0x48 ∷ 0x00 ∷ 0xCB ∷ []) 33 1 (Refused Argument)
-    ∷ case (0xC5 ∷ 0xF9 ∷ 0x70 ∷ 0xCA ∷ 0x1B ∷ []) 59 1 (Refused Argument)
-    ∷ case (0xC5 ∷ 0xF9 ∷ 0x70 ∷ 0xCA ∷ 0x1B ∷ []) 62 1 (Refused Argument)
-    ∷ case (0xC5 ∷ 0xF9 ∷ 0x70 ∷ 0xCA ∷ 0x1B ∷ []) 0 5 (Refused Feature)
+    case (0xC5 ∷ 0xFD ∷ 0x70 ∷ 0xCA ∷ 0x1B ∷ []) 2 1 (Err Argument)
+    ∷ case (0x62 ∷ 0xF1 ∷ 0x7D ∷ 0x48 ∷ 0x70 ∷ 0xCA ∷ 0x1B ∷ []) 4 1 (Err Argument)
+    ∷ case (0xC5 ∷ 0xF9 ∷ 0x70 ∷ 0xCA ∷ 0x1B ∷ []) 8 1 (Err Argument)
+    ∷ case (0x62 ∷ 0xF1 ∷ 0x7D ∷ 0x28 ∷ 0x70 ∷ 0xCA ∷ 0x1B ∷ []) 9 1 (Err Argument)
+    ∷ case (0x62 ∷ 0xF2 ∷ 0x6D ∷ 0x48 ∷ 0x8D ∷ 0xCB ∷ []) 17 1 (Err Argument)
+    ∷ case (0x62 ∷ 0xF2 ∷ 0x6D ∷ 0x48 ∷ 0x00 ∷ 0xCB ∷ []) 33 1 (Err Argument)
+    ∷ case (0xC5 ∷ 0xF9 ∷ 0x70 ∷ 0xCA ∷ 0x1B ∷ []) 59 1 (Err Argument)
+    ∷ case (0xC5 ∷ 0xF9 ∷ 0x70 ∷ 0xCA ∷ 0x1B ∷ []) 62 1 (Err Argument)
+    ∷ case (0xC5 ∷ 0xF9 ∷ 0x70 ∷ 0xCA ∷ 0x1B ∷ []) 0 5 (Err Feature)
     ∷ case (0x62 ∷ 0xF1 ∷ 0x7D ∷ 0x28 ∷ 0x70 ∷ 0xCA ∷ 0x1B ∷ []) 13 0 (by_immediate vpshufd Evex Bits256 1 (register 2) 0 false false 0x1B 7)
-    ∷ case [] 2 1 (Refused Argument)
-    ∷ case (0xC5 ∷ 0xF9 ∷ 0x70 ∷ 0xCA ∷ []) 16 1 (Refused Argument)
-    ∷ case (0x90 ∷ []) 32 1 (Refused Argument)
-    ∷ case (0x62 ∷ 0xF9 ∷ 0x7D ∷ 0x48 ∷ 0x70 ∷ 0xCA ∷ 0x1B ∷ []) 12 1 (Refused Argument)
-    ∷ case (0x62 ∷ 0xF2 ∷ 0x6D ∷ 0x48 ∷ 0x8D ∷ 0xCB ∷ []) 41 1 (Refused Argument)
-    ∷ case (0xC5 ∷ 0xF9 ∷ 0x70 ∷ 0xCA ∷ 0x1B ∷ []) 65 1 (Refused Argument)
-    ∷ case (0xC5 ∷ 0xF9 ∷ 0x70 ∷ 0xCA ∷ 0x1B ∷ []) 4294967295 1 (Refused Argument)
-    ∷ case [] 0 2 (Refused Truncated)
+    ∷ case [] 2 1 (Err Argument)
+    ∷ case (0xC5 ∷ 0xF9 ∷ 0x70 ∷ 0xCA ∷ []) 16 1 (Err Argument)
+    ∷ case (0x90 ∷ []) 32 1 (Err Argument)
+    ∷ case (0x62 ∷ 0xF9 ∷ 0x7D ∷ 0x48 ∷ 0x70 ∷ 0xCA ∷ 0x1B ∷ []) 12 1 (Err Argument)
+    ∷ case (0x62 ∷ 0xF2 ∷ 0x6D ∷ 0x48 ∷ 0x8D ∷ 0xCB ∷ []) 41 1 (Err Argument)
+    ∷ case (0xC5 ∷ 0xF9 ∷ 0x70 ∷ 0xCA ∷ 0x1B ∷ []) 65 1 (Err Argument)
+    ∷ case (0xC5 ∷ 0xF9 ∷ 0x70 ∷ 0xCA ∷ 0x1B ∷ []) 4294967295 1 (Err Argument)
+    ∷ case [] 0 2 (Err Truncated)
     ∷ []
 
 -- request 7, cases 55 to 60: VPSHUFD's opcode in maps 5, 4 and 0; Q bit 2; and either fixed bit with map 5. P bit 3 by itself is case 31. Then maps 6 and
@@ -320,27 +319,27 @@ feature_set_cases =
 -- with every other field wrong; map 5 cut before the opcode, and behind it; and under other features
 unfoldable pub map_cases : List Case
 map_cases =
-    case (0x62 ∷ 0xF5 ∷ 0x7D ∷ 0x48 ∷ 0x70 ∷ 0xCA ∷ 0x1B ∷ []) 63 3 (Refused Unlisted)
-    ∷ case (0x62 ∷ 0xF4 ∷ 0x7D ∷ 0x48 ∷ 0x70 ∷ 0xCA ∷ 0x1B ∷ []) 63 3 (Refused Unlisted)
-    ∷ case (0x62 ∷ 0xF0 ∷ 0x7D ∷ 0x48 ∷ 0x70 ∷ 0xCA ∷ 0x1B ∷ []) 63 3 (Refused Unlisted)
+    case (0x62 ∷ 0xF5 ∷ 0x7D ∷ 0x48 ∷ 0x70 ∷ 0xCA ∷ 0x1B ∷ []) 63 3 (Err Unlisted)
+    ∷ case (0x62 ∷ 0xF4 ∷ 0x7D ∷ 0x48 ∷ 0x70 ∷ 0xCA ∷ 0x1B ∷ []) 63 3 (Err Unlisted)
+    ∷ case (0x62 ∷ 0xF0 ∷ 0x7D ∷ 0x48 ∷ 0x70 ∷ 0xCA ∷ 0x1B ∷ []) 63 3 (Err Unlisted)
     ∷ case (0x62 ∷ 0xF1 ∷ 0x79 ∷ 0x48 ∷ 0x70 ∷ 0xCA ∷ 0x1B ∷ []) 63 4 (wrong FixedBits)
     ∷ case (0x62 ∷ 0xFD ∷ 0x7D ∷ 0x48 ∷ 0x70 ∷ 0xCA ∷ 0x1B ∷ []) 63 4 (wrong FixedBits)
     ∷ case (0x62 ∷ 0xF5 ∷ 0x79 ∷ 0x48 ∷ 0x70 ∷ 0xCA ∷ 0x1B ∷ []) 63 4 (wrong FixedBits)
-    ∷ case (0x62 ∷ 0xF6 ∷ 0x6D ∷ 0x48 ∷ 0x8D ∷ 0xCB ∷ []) 63 3 (Refused Unlisted)
-    ∷ case (0x62 ∷ 0xF7 ∷ 0xFD ∷ 0x48 ∷ 0x05 ∷ 0xCA ∷ 0x05 ∷ []) 63 3 (Refused Unlisted)
-    ∷ case (0x62 ∷ 0xF2 ∷ 0x7D ∷ 0x48 ∷ 0x70 ∷ 0xCA ∷ 0x1B ∷ []) 63 3 (Refused Unlisted)
-    ∷ case (0x62 ∷ 0xF3 ∷ 0x6D ∷ 0x48 ∷ 0x8D ∷ 0xCB ∷ []) 63 3 (Refused Unlisted)
-    ∷ case (0x62 ∷ 0xF1 ∷ 0xFD ∷ 0x48 ∷ 0x05 ∷ 0xCA ∷ 0x05 ∷ []) 63 3 (Refused Unlisted)
-    ∷ case (0xC4 ∷ 0xEB ∷ 0x7D ∷ 0x05 ∷ 0xCA ∷ 0x05 ∷ []) 63 3 (Refused Unlisted)
-    ∷ case (0xC4 ∷ 0xF3 ∷ 0x7D ∷ 0x05 ∷ 0xCA ∷ 0x05 ∷ []) 63 3 (Refused Unlisted)
-    ∷ case (0xC5 ∷ 0xFB ∷ 0x70 ∷ 0xCA ∷ 0x1B ∷ []) 63 3 (Refused Unlisted)
-    ∷ case (0xC4 ∷ 0xE3 ∷ 0x7F ∷ 0x05 ∷ 0xCA ∷ 0x05 ∷ []) 63 3 (Refused Unlisted)
-    ∷ case (0x62 ∷ 0xF1 ∷ 0x7F ∷ 0x48 ∷ 0x70 ∷ 0xCA ∷ 0x1B ∷ []) 63 3 (Refused Unlisted)
-    ∷ case (0x62 ∷ 0xF5 ∷ 0x75 ∷ 0xF8 ∷ 0x70 ∷ 0xCA ∷ 0x1B ∷ []) 63 3 (Refused Unlisted)
-    ∷ case (0x62 ∷ 0xF5 ∷ 0x7D ∷ 0x48 ∷ []) 63 2 (Refused Truncated)
-    ∷ case (0x62 ∷ 0xF5 ∷ 0x7D ∷ 0x48 ∷ 0x70 ∷ []) 63 3 (Refused Unlisted)
-    ∷ case (0x62 ∷ 0xF5 ∷ 0x7D ∷ 0x48 ∷ 0x70 ∷ 0xCA ∷ 0x1B ∷ []) 0 3 (Refused Unlisted)
-    ∷ case (0x62 ∷ 0xF5 ∷ 0x7D ∷ 0x48 ∷ 0x70 ∷ 0xCA ∷ 0x1B ∷ []) 64 1 (Refused Argument)
+    ∷ case (0x62 ∷ 0xF6 ∷ 0x6D ∷ 0x48 ∷ 0x8D ∷ 0xCB ∷ []) 63 3 (Err Unlisted)
+    ∷ case (0x62 ∷ 0xF7 ∷ 0xFD ∷ 0x48 ∷ 0x05 ∷ 0xCA ∷ 0x05 ∷ []) 63 3 (Err Unlisted)
+    ∷ case (0x62 ∷ 0xF2 ∷ 0x7D ∷ 0x48 ∷ 0x70 ∷ 0xCA ∷ 0x1B ∷ []) 63 3 (Err Unlisted)
+    ∷ case (0x62 ∷ 0xF3 ∷ 0x6D ∷ 0x48 ∷ 0x8D ∷ 0xCB ∷ []) 63 3 (Err Unlisted)
+    ∷ case (0x62 ∷ 0xF1 ∷ 0xFD ∷ 0x48 ∷ 0x05 ∷ 0xCA ∷ 0x05 ∷ []) 63 3 (Err Unlisted)
+    ∷ case (0xC4 ∷ 0xEB ∷ 0x7D ∷ 0x05 ∷ 0xCA ∷ 0x05 ∷ []) 63 3 (Err Unlisted)
+    ∷ case (0xC4 ∷ 0xF3 ∷ 0x7D ∷ 0x05 ∷ 0xCA ∷ 0x05 ∷ []) 63 3 (Err Unlisted)
+    ∷ case (0xC5 ∷ 0xFB ∷ 0x70 ∷ 0xCA ∷ 0x1B ∷ []) 63 3 (Err Unlisted)
+    ∷ case (0xC4 ∷ 0xE3 ∷ 0x7F ∷ 0x05 ∷ 0xCA ∷ 0x05 ∷ []) 63 3 (Err Unlisted)
+    ∷ case (0x62 ∷ 0xF1 ∷ 0x7F ∷ 0x48 ∷ 0x70 ∷ 0xCA ∷ 0x1B ∷ []) 63 3 (Err Unlisted)
+    ∷ case (0x62 ∷ 0xF5 ∷ 0x75 ∷ 0xF8 ∷ 0x70 ∷ 0xCA ∷ 0x1B ∷ []) 63 3 (Err Unlisted)
+    ∷ case (0x62 ∷ 0xF5 ∷ 0x7D ∷ 0x48 ∷ []) 63 2 (Err Truncated)
+    ∷ case (0x62 ∷ 0xF5 ∷ 0x7D ∷ 0x48 ∷ 0x70 ∷ []) 63 3 (Err Unlisted)
+    ∷ case (0x62 ∷ 0xF5 ∷ 0x7D ∷ 0x48 ∷ 0x70 ∷ 0xCA ∷ 0x1B ∷ []) 0 3 (Err Unlisted)
+    ∷ case (0x62 ∷ 0xF5 ∷ 0x7D ∷ 0x48 ∷ 0x70 ∷ 0xCA ∷ 0x1B ∷ []) 64 1 (Err Argument)
     ∷ []
 
 -- rules 2.8 to 2.10: every register as destination d, first source f and third operand t, each in its own order: VPERMB with 62, VPERMILPD with C4 and
@@ -351,14 +350,14 @@ modrm_of d t = 0xC0 + 8 * (d % 8) + t % 8
 abbrev pub under62 : ℕ → ℕ → ℕ → Case
 under62 d f t =
     case (0x62 ∷ (128 * (1 - d / 8 % 2) + 64 * (1 - t / 16) + 32 * (1 - t / 8 % 2) + 16 * (1 - d / 16) + 2) ∷ (8 * (15 - f % 16) + 5) ∷ (0x40 + 8 * (1 - f / 16)) ∷ 0x8D ∷ modrm_of d t ∷ []) 63 0
-    (of_three vpermb Evex Bits512 d f t Immediate.Absent 6)
+    (of_three vpermb Evex Bits512 d f t None 6)
 
 abbrev pub under_c4 : ℕ → ℕ → ℕ → Case
 under_c4 d f t =
-    case (0xC4 ∷ (128 * (1 - d / 8) + 64 + 32 * (1 - t / 8) + 2) ∷ (8 * (15 - f) + 1) ∷ 0x0D ∷ modrm_of d t ∷ []) 63 0 (of_three vpermilpd_register Vex Bits128 d f t Immediate.Absent 5)
+    case (0xC4 ∷ (128 * (1 - d / 8) + 64 + 32 * (1 - t / 8) + 2) ∷ (8 * (15 - f) + 1) ∷ 0x0D ∷ modrm_of d t ∷ []) 63 0 (of_three vpermilpd_register Vex Bits128 d f t None 5)
 
 abbrev pub under_c5 : ℕ → ℕ → ℕ → Case
-under_c5 d f t = case (0xC5 ∷ (128 * (1 - d / 8) + 8 * (15 - f)) ∷ 0x14 ∷ modrm_of d t ∷ []) 63 0 (of_three vunpcklps Vex Bits128 d f t Immediate.Absent 4)
+under_c5 d f t = case (0xC5 ∷ (128 * (1 - d / 8) + 8 * (15 - f)) ∷ 0x14 ∷ modrm_of d t ∷ []) 63 0 (of_three vunpcklps Vex Bits128 d f t None 4)
 
 unfoldable pub register_cases : List Case
 register_cases =
@@ -372,7 +371,7 @@ Decodes cases =
     × (map (λ (c : Case). answer_of c.gives) cases ≡ map (λ (c : Case). c.answer) cases)
 
 pub starred_decode : Decodes starred_cases
-unfolding starred_cases decode_of known_of on_head on_row on_total finish_of head_of prefix_size prefix_of fixed_bits rows find_in matches_row matches_w sib_size displacement_size check_of wrong_w wrong_width wrong_vvvv wrong_broadcast wrong_zeroing enough_of needed_of has_feature instruction_of encoding_of first_of third_of immediate_of width_of element_of digits_of half_of move_from control_of
+unfolding starred_cases decode_of known_of on_head on_row on_total finish_of head_of prefix_size prefix_of fixed_bits rows find_in matches_row matches_w sib_size displacement_size check_of wrong_w wrong_width wrong_vvvv wrong_broadcast wrong_zeroing enough_of needed_of has_feature instruction_of first_of third_of immediate_of width_of
 starred_decode = (refl, refl)
 
 -- the same cases under other features
@@ -381,29 +380,29 @@ under features cases =
     map (λ (c : Case). record { bytes = c.bytes; features = features; answer = c.answer; gives = c.gives; places = c.places }) cases
 
 pub starred_decode_all : Decodes (under all_features starred_cases)
-unfolding starred_cases decode_of known_of on_head on_row on_total finish_of head_of prefix_size prefix_of fixed_bits rows find_in matches_row matches_w sib_size displacement_size check_of wrong_w wrong_width wrong_vvvv wrong_broadcast wrong_zeroing enough_of needed_of has_feature instruction_of encoding_of first_of third_of immediate_of width_of element_of digits_of half_of move_from control_of
+unfolding starred_cases decode_of known_of on_head on_row on_total finish_of head_of prefix_size prefix_of fixed_bits rows find_in matches_row matches_w sib_size displacement_size check_of wrong_w wrong_width wrong_vvvv wrong_broadcast wrong_zeroing enough_of needed_of has_feature instruction_of first_of third_of immediate_of width_of
 starred_decode_all = (refl, refl)
 
 pub further_decode : Decodes further_cases
-unfolding further_cases decode_of known_of on_head on_row on_total finish_of head_of prefix_size prefix_of fixed_bits rows find_in matches_row matches_w sib_size displacement_size check_of wrong_w wrong_width wrong_vvvv wrong_broadcast wrong_zeroing enough_of needed_of has_feature instruction_of encoding_of first_of third_of immediate_of width_of element_of digits_of half_of move_from control_of
+unfolding further_cases decode_of known_of on_head on_row on_total finish_of head_of prefix_size prefix_of fixed_bits rows find_in matches_row matches_w sib_size displacement_size check_of wrong_w wrong_width wrong_vvvv wrong_broadcast wrong_zeroing enough_of needed_of has_feature instruction_of first_of third_of immediate_of width_of
 further_decode = (refl, refl)
 
 pub requested_decode : Decodes requested_cases
-unfolding requested_cases decode_of known_of on_head on_row on_total finish_of head_of prefix_size prefix_of fixed_bits rows find_in matches_row matches_w sib_size displacement_size check_of wrong_w wrong_width wrong_vvvv wrong_broadcast wrong_zeroing enough_of needed_of has_feature instruction_of encoding_of first_of third_of immediate_of width_of element_of digits_of half_of move_from control_of
+unfolding requested_cases decode_of known_of on_head on_row on_total finish_of head_of prefix_size prefix_of fixed_bits rows find_in matches_row matches_w sib_size displacement_size check_of wrong_w wrong_width wrong_vvvv wrong_broadcast wrong_zeroing enough_of needed_of has_feature instruction_of first_of third_of immediate_of width_of
 requested_decode = (refl, refl)
 
 pub reserved_decode : Decodes reserved_cases
-unfolding reserved_cases decode_of known_of on_head on_row on_total finish_of head_of prefix_size prefix_of fixed_bits rows find_in matches_row matches_w sib_size displacement_size check_of wrong_w wrong_width wrong_vvvv wrong_broadcast wrong_zeroing enough_of needed_of has_feature instruction_of encoding_of first_of third_of immediate_of width_of element_of digits_of half_of move_from control_of
+unfolding reserved_cases decode_of known_of on_head on_row on_total finish_of head_of prefix_size prefix_of fixed_bits rows find_in matches_row matches_w sib_size displacement_size check_of wrong_w wrong_width wrong_vvvv wrong_broadcast wrong_zeroing enough_of needed_of has_feature instruction_of first_of third_of immediate_of width_of
 reserved_decode = (refl, refl)
 
 pub feature_sets_decode : Decodes feature_set_cases
-unfolding feature_set_cases decode_of known_of on_head on_row on_total finish_of head_of prefix_size prefix_of fixed_bits rows find_in matches_row matches_w sib_size displacement_size check_of wrong_w wrong_width wrong_vvvv wrong_broadcast wrong_zeroing enough_of needed_of has_feature instruction_of encoding_of first_of third_of immediate_of width_of element_of digits_of half_of move_from control_of
+unfolding feature_set_cases decode_of known_of on_head on_row on_total finish_of head_of prefix_size prefix_of fixed_bits rows find_in matches_row matches_w sib_size displacement_size check_of wrong_w wrong_width wrong_vvvv wrong_broadcast wrong_zeroing enough_of needed_of has_feature instruction_of first_of third_of immediate_of width_of
 feature_sets_decode = (refl, refl)
 
 pub map_decode : Decodes map_cases
-unfolding map_cases decode_of known_of on_head on_row on_total finish_of head_of prefix_size prefix_of fixed_bits rows find_in matches_row matches_w sib_size displacement_size check_of wrong_w wrong_width wrong_vvvv wrong_broadcast wrong_zeroing enough_of needed_of has_feature instruction_of encoding_of first_of third_of immediate_of width_of element_of digits_of half_of move_from control_of
+unfolding map_cases decode_of known_of on_head on_row on_total finish_of head_of prefix_size prefix_of fixed_bits rows find_in matches_row matches_w sib_size displacement_size check_of wrong_w wrong_width wrong_vvvv wrong_broadcast wrong_zeroing enough_of needed_of has_feature instruction_of first_of third_of immediate_of width_of
 map_decode = (refl, refl)
 
 pub register_decode : Decodes register_cases
-unfolding register_cases tabulate decode_of known_of on_head on_row on_total finish_of head_of prefix_size prefix_of fixed_bits rows find_in matches_row matches_w sib_size displacement_size check_of wrong_w wrong_width wrong_vvvv wrong_broadcast wrong_zeroing enough_of needed_of has_feature instruction_of encoding_of first_of third_of immediate_of width_of element_of digits_of half_of move_from control_of
+unfolding register_cases tabulate decode_of known_of on_head on_row on_total finish_of head_of prefix_size prefix_of fixed_bits rows find_in matches_row matches_w sib_size displacement_size check_of wrong_w wrong_width wrong_vvvv wrong_broadcast wrong_zeroing enough_of needed_of has_feature instruction_of first_of third_of immediate_of width_of
 register_decode = (refl, refl)

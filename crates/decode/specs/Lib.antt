@@ -8,3 +8,4 @@ pub mod Instruction
 pub mod Decode
 pub mod Cases
 pub mod Fits
+pub mod Steps

@@ -9,7 +9,7 @@ use isa::table::Key;
 // The fields of a prefix of any kind, none inverted.
 #[derive(Clone, Copy)]
 pub struct Prefix {
-    pub encoding: u8,
+    pub encoding: Encoding,
     // Bytes of the prefix.
     pub size: u8,
     // R'.R
@@ -18,12 +18,14 @@ pub struct Prefix {
     pub b: u8,
     // V'.vvvv
     pub v: u8,
+    // Map, pp and W are numbers, since a prefix can have some that no row has (`no_row_under_62`).
     pub map: u8,
     pub pp: u8,
     pub w: u8,
+    // A number and no `Width`, since a prefix can have the value that is reserved, and `s_bits_of_62` speaks of the number.
     pub width: u8,
-    pub z: u8,
-    pub broadcast: u8,
+    pub z: bool,
+    pub broadcast: bool,
     pub mask: u8,
 }
 
@@ -36,33 +38,30 @@ impl Prefix {
             encoding: self.encoding,
             pp: self.pp,
             map: self.map,
-            opcode: opcode,
+            opcode,
             w: self.w,
         }
     }
 }
 
-// The bytes of a prefix that begins with b, and 0 where none does.
+// The bytes of a prefix that begins with b, and 0 where none does. Not an Option: so the definition has it (`prefix_size`).
+#[tactic(auto, unfolding(crate::specs::Prefix::prefix_size))]
 fn prefix_size(b: u8) -> u8
     ensures { result ≡ prefix_size b }
 {
-    if b == 0xC5 {
-        return 2;
+    match b {
+        0xC5 => 2,
+        0xC4 => 3,
+        0x62 => 4,
+        _ => 0,
     }
-    if b == 0xC4 {
-        return 3;
-    }
-    if b == 0x62 {
-        return 4;
-    }
-    0
 }
 
 fn vex2(p: u8) -> Prefix
     ensures { result ≡ vex2_of p }
 {
     Prefix {
-        encoding: Encoding::VEX,
+        encoding: Encoding::Vex,
         size: 2,
         r: 1 - p / 128 % 2,
         x: 0,
@@ -72,8 +71,8 @@ fn vex2(p: u8) -> Prefix
         pp: p % 4,
         w: 0,
         width: p / 4 % 2,
-        z: 0,
-        broadcast: 0,
+        z: false,
+        broadcast: false,
         mask: 0,
     }
 }
@@ -82,7 +81,7 @@ fn vex3(p: u8, q: u8) -> Prefix
     ensures { result ≡ vex3_of p q }
 {
     Prefix {
-        encoding: Encoding::VEX,
+        encoding: Encoding::Vex,
         size: 3,
         r: 1 - p / 128 % 2,
         x: 1 - p / 64 % 2,
@@ -92,8 +91,8 @@ fn vex3(p: u8, q: u8) -> Prefix
         pp: q % 4,
         w: q / 128 % 2,
         width: q / 4 % 2,
-        z: 0,
-        broadcast: 0,
+        z: false,
+        broadcast: false,
         mask: 0,
     }
 }
@@ -102,7 +101,7 @@ fn evex(p: u8, q: u8, s: u8) -> Prefix
     ensures { result ≡ evex_of p q s }
 {
     Prefix {
-        encoding: Encoding::EVEX,
+        encoding: Encoding::Evex,
         size: 4,
         r: 1 - p / 128 % 2 + 2 * (1 - p / 16 % 2),
         x: 1 - p / 64 % 2,
@@ -112,62 +111,48 @@ fn evex(p: u8, q: u8, s: u8) -> Prefix
         pp: q % 4,
         w: q / 128 % 2,
         width: s / 32 % 4,
-        z: s / 128 % 2,
-        broadcast: s / 16 % 2,
+        z: s / 128 % 2 == 1,
+        broadcast: s / 16 % 2 == 1,
         mask: s % 8,
     }
 }
 
+#[tactic(auto, unfolding(crate::specs::Prefix::prefix_of))]
 pub fn fields(b0: u8, b1: u8, b2: u8, b3: u8) -> Prefix
     ensures { result ≡ prefix_of b0 b1 b2 b3 }
 {
-    if b0 == 0xC5 {
-        return vex2(b1);
+    match b0 {
+        0xC5 => vex2(b1),
+        0xC4 => vex3(b1, b2),
+        _ => evex(b1, b2, b3),
     }
-    if b0 == 0xC4 {
-        return vex3(b1, b2);
-    }
-    evex(b1, b2, b3)
 }
 
 // Whether the bits of an EVEX prefix that are fixed are as they must be.
+#[tactic(auto, unfolding(crate::specs::Prefix::fixed_bits))]
 fn fixed_bits(b0: u8, p: u8, q: u8) -> bool
     ensures { result ≡ fixed_bits b0 p q }
 {
-    if b0 != 0x62 {
-        return true;
-    }
-    let zero = p / 8 % 2;
-    if zero != 0 {
-        return false;
-    }
-    let one = q / 4 % 2;
-    one == 1
-}
-
-#[derive(Clone, Copy)]
-pub enum Head {
-    Got(Prefix),
-    Refused(Refusal),
+    b0 != 0x62 || (p / 8 % 2 == 0 && q / 4 % 2 == 1)
 }
 
 // What the first bytes of n bytes say.
-pub fn read_head(n: usize, b0: u8, b1: u8, b2: u8, b3: u8) -> Head
+#[tactic(auto, unfolding(crate::specs::Prefix::head_of))]
+pub fn read_head(n: usize, b0: u8, b1: u8, b2: u8, b3: u8) -> Result<Prefix, Refusal>
     ensures { result ≡ head_of n b0 b1 b2 b3 }
 {
     if n == 0 {
-        return Head::Refused(Refusal::Truncated);
+        return Err(Refusal::Truncated);
     }
     let size = prefix_size(b0);
     if size == 0 {
-        return Head::Refused(Refusal::Unlisted);
+        return Err(Refusal::Unlisted);
     }
     if n <= size as usize {
-        return Head::Refused(Refusal::Truncated);
+        return Err(Refusal::Truncated);
     }
-    if fixed_bits(b0, b1, b2) {
-        Head::Got(fields(b0, b1, b2, b3))
-    } else {
-        Head::Refused(Refusal::Reserved(Field::FixedBits))
+    if !fixed_bits(b0, b1, b2) {
+        return Err(Refusal::Reserved(Field::FixedBits));
     }
+    Ok(fields(b0, b1, b2, b3))
 }

@@ -3,7 +3,5 @@ pub mod Bits
 pub mod Sizes
 pub mod Reasons
 pub mod Passing
-mod Grid
-mod Search
 pub mod Rule
 pub mod Columns

@@ -6,4 +6,3 @@ pub mod Refusal
 pub mod Operands
 pub mod Table
 pub mod Facts
-pub mod Inner

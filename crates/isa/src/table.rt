@@ -1,241 +1,161 @@
 // The instruction table (rule 3.1), a decoding row a line, and its search.
-ghost use Rattle.std.specs.Prelude.{◌≡◌, [], get_or};
-ghost use Rattle.isa.specs.Table.{rows, blank, matches_w, matches_row, find_in};
-ghost use Rattle.isa.specs.Inner.{grid};
+ghost use Rattle.std.specs.Prelude.{◌≡◌};
+ghost use Rattle.isa.specs.Table.{rows, matches_row, find_in};
 
-use crate::features::Features;
-use crate::operands::{Control, Encoding, Half, Mnemonic, Move, Width};
+use crate::features::Feature;
+use crate::operands::{Control, Digits, Element, Encoding, Half, Mnemonic, Move, Width};
 
 // A decoding row. Its key is opcode, map, pp, encoding and, under EVEX, W.
 #[derive(Clone, Copy)]
 pub struct Row {
-    pub mnemonic: u8,
-    pub encoding: u8,
+    pub mnemonic: Mnemonic,
+    pub encoding: Encoding,
     pub pp: u8,
     pub map: u8,
     pub opcode: u8,
-    // 0 or 1, the W that is wanted, or ANY_W.
-    pub w: u8,
-    // The least that the width field may be.
-    pub least: u8,
-    // Bytes of immediate.
-    pub immediate: u8,
-    // 1 where there is a first source.
-    pub first: u8,
-    // Bytes of an element.
-    pub element: u8,
-    // 1 where a memory element can be repeated.
-    pub broadcast: u8,
+    // The W that is wanted, or none where any will do.
+    pub w: Option<u8>,
+    pub least: Width,
+    pub immediate: bool,
+    // Whether there is a first source.
+    pub first: bool,
+    pub element: Element,
+    // Whether a memory element can be repeated.
+    pub broadcast: bool,
     // The feature needed, and the one at 256 bits.
-    pub needs: u8,
-    pub needs256: u8,
-    // How it chooses: the kind of move, the digits' bits, the control's first bit or the half, the group's width, and the control.
-    pub kind: u8,
-    pub bits: u8,
-    pub group: u8,
-    pub control: u8,
-}
-
-impl Row {
-    pub const ANY_W: u8 = 2;
+    pub needs: Feature,
+    pub needs256: Feature,
+    // How it chooses, and where its control stands.
+    pub moves: Move,
+    pub control: Control,
 }
 
 // What a row is looked up by.
 #[derive(Clone, Copy)]
 pub struct Key {
-    pub encoding: u8,
+    pub encoding: Encoding,
     pub pp: u8,
     pub map: u8,
     pub opcode: u8,
     pub w: u8,
 }
 
-#[derive(Clone, Copy)]
-pub enum Found {
-    Row(Row),
-    Nothing,
+impl Row {
+    // VEX rows are looked up whatever W is, EVEX rows by theirs.
+    #[tactic(auto, unfolding(crate::specs::Table::matches_row, crate::specs::Table::matches_w))]
+    fn matches(self, key: Key) -> bool
+        ensures { result ≡ matches_row self key }
+    {
+        self.opcode == key.opcode
+            && self.map == key.map
+            && self.pp == key.pp
+            && self.encoding == key.encoding
+            && (key.encoding == Encoding::Vex || self.w.is_none_or(|wanted| wanted == key.w))
+    }
 }
 
-// The columns' values.
-const VPERMILPD: u8 = Mnemonic::VPERMILPD;
+// The columns' values, as the manual abbreviates them.
+const W0: Option<u8> = Some(0);
 
-const VPERMB: u8 = Mnemonic::VPERMB;
+const W1: Option<u8> = Some(1);
 
-const VUNPCKLPS: u8 = Mnemonic::VUNPCKLPS;
+const WIG: Option<u8> = None;
 
-const VPSHUFD: u8 = Mnemonic::VPSHUFD;
+const XMM: Width = Width::Bits128;
 
-const VPERM2F128: u8 = Mnemonic::VPERM2F128;
+const YMM: Width = Width::Bits256;
 
-const VPERMILPS: u8 = Mnemonic::VPERMILPS;
+const IMM8: bool = true;
 
-const VUNPCKHPS: u8 = Mnemonic::VUNPCKHPS;
+const FIRST: bool = true;
 
-const VUNPCKLPD: u8 = Mnemonic::VUNPCKLPD;
+const REPEATS: bool = true;
 
-const VUNPCKHPD: u8 = Mnemonic::VUNPCKHPD;
+const NONE: bool = false;
 
-const VPSHUFB: u8 = Mnemonic::VPSHUFB;
+const DIGIT1: Move = Move::ByDigit(Digits::One, Width::Bits128);
 
-const VEX: u8 = Encoding::VEX;
+const DIGIT2: Move = Move::ByDigit(Digits::Two, Width::Bits128);
 
-const EVEX: u8 = Encoding::EVEX;
+const LANE0: Move = Move::InLane(0);
 
-const W0: u8 = 0;
+const LANE1: Move = Move::InLane(1);
 
-const W1: u8 = 1;
+const ANYWHERE: Move = Move::Anywhere;
 
-const WIG: u8 = Row::ANY_W;
+const LOW: Move = Move::Halves(Half::Low);
 
-// The least width; VEX forms reach to 256 bits, EVEX forms to 512.
-const XMM: u8 = Width::L128;
+const HIGH: Move = Move::Halves(Half::High);
 
-const YMM: u8 = Width::L256;
-// The operands, as the manual abbreviates them: register, V for the first source in vvvv, M for r/m, I for the immediate, which
-// is the control where there is one; C stands for V or M where that one is the control. 1 for I, 2 for V, 4 times the control.
-const RMI: u8 = 1 + 4 * Control::IMMEDIATE;
+const LANE_OR_ZERO: Move = Move::LaneOrZero;
 
-const RVM: u8 = 2 + 4 * Control::NOWHERE;
+const IN_LANE_OR_ZERO: Move = Move::InLaneOrZero;
 
-const RVMI: u8 = 3 + 4 * Control::IMMEDIATE;
+// A row in the order of table 3.1: name and the form's own columns; pp, map, opcode; immediate, element, first source; move, control.
+// A macro, since a constant's value calls no function and a row is to be a line.
+macro_rules! row {
+    // A VEX form has its least width, W, the feature needed and the one at 256 bits. It repeats no element.
+    ($name:ident vex $least:ident $w:ident $needs:ident $needs256:ident, $($more:tt)*) => {
+        row!($name Vex $least $w NONE $needs $needs256, $($more)*)
+    };
+    // An EVEX form, of any width, has W, whether a memory element can be repeated, and the feature needed.
+    ($name:ident evex $w:ident $broadcast:ident $needs:ident, $($more:tt)*) => {
+        row!($name Evex XMM $w $broadcast $needs $needs, $($more)*)
+    };
+    ($name:ident $encoding:ident $least:ident $w:ident $broadcast:ident $needs:ident $needs256:ident,
+     $pp:literal $map:literal $opcode:literal,
+     $immediate:ident $element:ident $first:ident,
+     $moves:ident $control:ident) => {
+        Row {
+            mnemonic: Mnemonic(Mnemonic::$name),
+            encoding: Encoding::$encoding,
+            pp: $pp,
+            map: $map,
+            opcode: $opcode,
+            w: $w,
+            least: $least,
+            immediate: $immediate,
+            first: $first,
+            element: Element::$element,
+            broadcast: $broadcast,
+            needs: Feature::$needs,
+            needs256: Feature::$needs256,
+            moves: $moves,
+            control: Control::$control,
+        }
+    };
+}
 
-const RCM: u8 = 2 + 4 * Control::FIRST;
-
-const RVC: u8 = 2 + 4 * Control::THIRD;
-
-// Elements of 4 and 8 bytes that a memory operand can repeat.
-const B4: u8 = 4 + 32;
-
-const B8: u8 = 8 + 32;
-// The feature needed, and 8 times the one at 256 bits.
-const AVX: u8 = Features::AVX + 8 * Features::AVX;
-
-const AVX2: u8 = Features::AVX + 8 * Features::AVX2;
-
-const F: u8 = Features::AVX512F + 8 * Features::AVX512F;
-
-const VBMI: u8 = Features::AVX512_VBMI + 8 * Features::AVX512_VBMI;
-
-const BW: u8 = Features::AVX512BW + 8 * Features::AVX512BW;
-// The kind of move, and 8 times its group's width.
-const DIGIT: u8 = Move::BY_DIGIT + 8 * Width::L128;
-
-const LANE: u8 = Move::IN_LANE;
-
-const ANY: u8 = Move::ANYWHERE;
-
-const HALF: u8 = Move::HALVES;
-
-const ZERO: u8 = Move::LANE_OR_ZERO;
-
-const LANEZ: u8 = Move::IN_LANE_OR_ZERO;
-
-// The half.
-const LO: u8 = Half::LOW;
-
-const HI: u8 = Half::HIGH;
-
-// Mnemonic, encoding, pp, map, opcode, W, least width, operands, element bytes, features, move, its bits.
-const ROWS: [[u8; 12]; 22] = [
-    [VPERMILPD, VEX, 1, 3, 0x05, W0, XMM, RMI, 8, AVX, DIGIT, 1],
-    [VPERMILPD, EVEX, 1, 3, 0x05, W1, XMM, RMI, B8, F, DIGIT, 1],
-    [VPERMILPD, VEX, 1, 2, 0x0D, W0, XMM, RVC, 8, AVX, LANE, 1],
-    [VPERMILPD, EVEX, 1, 2, 0x0D, W1, XMM, RVC, B8, F, LANE, 1],
-    [VPERMB, EVEX, 1, 2, 0x8D, W0, XMM, RCM, 1, VBMI, ANY, 0],
-    [VUNPCKLPS, VEX, 0, 1, 0x14, WIG, XMM, RVM, 4, AVX, HALF, LO],
-    [VUNPCKLPS, EVEX, 0, 1, 0x14, W0, XMM, RVM, B4, F, HALF, LO],
-    [VPSHUFD, VEX, 1, 1, 0x70, WIG, XMM, RMI, 4, AVX2, DIGIT, 2],
-    [VPSHUFD, EVEX, 1, 1, 0x70, W0, XMM, RMI, B4, F, DIGIT, 2],
-    [VPERM2F128, VEX, 1, 3, 0x06, W0, YMM, RVMI, 16, AVX, ZERO, 0],
-    [VPERMILPS, VEX, 1, 3, 0x04, W0, XMM, RMI, 4, AVX, DIGIT, 2],
-    [VPERMILPS, EVEX, 1, 3, 0x04, W0, XMM, RMI, B4, F, DIGIT, 2],
-    [VPERMILPS, VEX, 1, 2, 0x0C, W0, XMM, RVC, 4, AVX, LANE, 0],
-    [VPERMILPS, EVEX, 1, 2, 0x0C, W0, XMM, RVC, B4, F, LANE, 0],
-    [VUNPCKHPS, VEX, 0, 1, 0x15, WIG, XMM, RVM, 4, AVX, HALF, HI],
-    [VUNPCKHPS, EVEX, 0, 1, 0x15, W0, XMM, RVM, B4, F, HALF, HI],
-    [VUNPCKLPD, VEX, 1, 1, 0x14, WIG, XMM, RVM, 8, AVX, HALF, LO],
-    [VUNPCKLPD, EVEX, 1, 1, 0x14, W1, XMM, RVM, B8, F, HALF, LO],
-    [VUNPCKHPD, VEX, 1, 1, 0x15, WIG, XMM, RVM, 8, AVX, HALF, HI],
-    [VUNPCKHPD, EVEX, 1, 1, 0x15, W1, XMM, RVM, B8, F, HALF, HI],
-    [VPSHUFB, VEX, 1, 2, 0x00, WIG, XMM, RVC, 1, AVX2, LANEZ, 0],
-    [VPSHUFB, EVEX, 1, 2, 0x00, WIG, XMM, RVC, 1, BW, LANEZ, 0],
+// The rows of the definition, in their order.
+const ROWS: &[Row; 22] = &[
+    row!(VPERMILPD vex XMM W0 Avx Avx, 1 3 0x05, IMM8 Quadword NONE, DIGIT1 Immediate),
+    row!(VPERMILPD evex W1 REPEATS Avx512f, 1 3 0x05, IMM8 Quadword NONE, DIGIT1 Immediate),
+    row!(VPERMILPD vex XMM W0 Avx Avx, 1 2 0x0D, NONE Quadword FIRST, LANE1 Third),
+    row!(VPERMILPD evex W1 REPEATS Avx512f, 1 2 0x0D, NONE Quadword FIRST, LANE1 Third),
+    row!(VPERMB evex W0 NONE Avx512vbmi, 1 2 0x8D, NONE Byte FIRST, ANYWHERE First),
+    row!(VUNPCKLPS vex XMM WIG Avx Avx, 0 1 0x14, NONE Doubleword FIRST, LOW Nowhere),
+    row!(VUNPCKLPS evex W0 REPEATS Avx512f, 0 1 0x14, NONE Doubleword FIRST, LOW Nowhere),
+    row!(VPSHUFD vex XMM WIG Avx Avx2, 1 1 0x70, IMM8 Doubleword NONE, DIGIT2 Immediate),
+    row!(VPSHUFD evex W0 REPEATS Avx512f, 1 1 0x70, IMM8 Doubleword NONE, DIGIT2 Immediate),
+    row!(VPERM2F128 vex YMM W0 Avx Avx, 1 3 0x06, IMM8 Lane FIRST, LANE_OR_ZERO Immediate),
+    row!(VPERMILPS vex XMM W0 Avx Avx, 1 3 0x04, IMM8 Doubleword NONE, DIGIT2 Immediate),
+    row!(VPERMILPS evex W0 REPEATS Avx512f, 1 3 0x04, IMM8 Doubleword NONE, DIGIT2 Immediate),
+    row!(VPERMILPS vex XMM W0 Avx Avx, 1 2 0x0C, NONE Doubleword FIRST, LANE0 Third),
+    row!(VPERMILPS evex W0 REPEATS Avx512f, 1 2 0x0C, NONE Doubleword FIRST, LANE0 Third),
+    row!(VUNPCKHPS vex XMM WIG Avx Avx, 0 1 0x15, NONE Doubleword FIRST, HIGH Nowhere),
+    row!(VUNPCKHPS evex W0 REPEATS Avx512f, 0 1 0x15, NONE Doubleword FIRST, HIGH Nowhere),
+    row!(VUNPCKLPD vex XMM WIG Avx Avx, 1 1 0x14, NONE Quadword FIRST, LOW Nowhere),
+    row!(VUNPCKLPD evex W1 REPEATS Avx512f, 1 1 0x14, NONE Quadword FIRST, LOW Nowhere),
+    row!(VUNPCKHPD vex XMM WIG Avx Avx, 1 1 0x15, NONE Quadword FIRST, HIGH Nowhere),
+    row!(VUNPCKHPD evex W1 REPEATS Avx512f, 1 1 0x15, NONE Quadword FIRST, HIGH Nowhere),
+    row!(VPSHUFB vex XMM WIG Avx Avx2, 1 2 0x00, NONE Byte FIRST, IN_LANE_OR_ZERO Third),
+    row!(VPSHUFB evex WIG NONE Avx512bw, 1 2 0x00, NONE Byte FIRST, IN_LANE_OR_ZERO Third),
 ];
 
-// The opcode's column.
-const OPCODE: usize = 4;
-
-// Row i, from its line.
-fn row_of(i: usize, t: [u8; 12]) -> Row
-    requires { t ≡ get_or grid i [] }
-    ensures { result ≡ get_or rows i blank }
-{
-    Row {
-        mnemonic: t[0],
-        encoding: t[1],
-        pp: t[2],
-        map: t[3],
-        opcode: t[4],
-        w: t[5],
-        least: t[6],
-        immediate: t[7] % 2,
-        first: t[7] / 2 % 2,
-        element: t[8] % 32,
-        broadcast: t[8] / 32,
-        needs: t[9] % 8,
-        needs256: t[9] / 8,
-        kind: t[10] % 8,
-        bits: t[11],
-        group: t[10] / 8,
-        control: t[7] / 4,
-    }
-}
-
-// VEX rows are looked up whatever W is, EVEX rows by theirs.
-fn matches_w(row: Row, key: Key) -> bool
-    ensures { result ≡ matches_w row key }
-{
-    if key.encoding == VEX {
-        return true;
-    }
-    if row.w == WIG {
-        return true;
-    }
-    row.w == key.w
-}
-
-fn matches(row: Row, key: Key) -> bool
-    ensures { result ≡ matches_row row key }
-{
-    if row.opcode != key.opcode {
-        return false;
-    }
-    if row.map != key.map {
-        return false;
-    }
-    if row.pp != key.pp {
-        return false;
-    }
-    if row.encoding != key.encoding {
-        return false;
-    }
-    matches_w(row, key)
-}
-
-// The first row of the table that has a key. The table is taken once: where it is indexed as a constant, the compiler writes all
-// of it to the stack each time.
-pub fn find(key: Key) -> Found
+// The first row of the table that has a key.
+#[tactic(auto, unfolding(crate::specs::Table::rows, crate::specs::Table::find_in))]
+pub fn find(key: Key) -> Option<Row>
     ensures { result ≡ find_in rows key }
 {
-    let table = ROWS;
-    let mut i: usize = 0;
-    while i < table.len() {
-        if table[i][OPCODE] == key.opcode {
-            let row = row_of(i, table[i]);
-            if matches(row, key) {
-                return Found::Row(row);
-            }
-        }
-        i += 1;
-    }
-    Found::Nothing
+    ROWS.iter().copied().find(|row| row.matches(key))
 }

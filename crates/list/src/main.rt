@@ -1,19 +1,17 @@
 // Rule 8.8: prints the listing of the list on standard input, piece by piece, and nothing for one over 16,384 bytes.
 #![tactic(auto)]
 
-ghost use Rattle.std.specs.Prelude.{◌≤◌, IfOk, length};
-
+use input::read_full;
 use isa::kinds::Code;
 use std::io;
-use std::io::Read;
 
 // One byte more than a list may have, so that a longer one is refused.
 const MOST: usize = Code::LIMIT + 1;
 
-// Bytes of a piece: any number from Text::LEAST on would do.
+// Bytes of a piece: any number from Text::LEAST on would do. Memory is of fixed size, here and for the code, and a part of it is used.
 const PIECE: usize = 4096;
 
-// A refused listing has no bytes, and none remain.
+// A refused listing has no bytes, and none remain. A loop, since each piece says where the next one starts.
 fn print(rt: &impl Print, code: &[u8]) -> io::Result<()> {
     let mut text = [0u8; PIECE];
     let mut place: usize = 0;
@@ -26,21 +24,6 @@ fn print(rt: &impl Print, code: &[u8]) -> io::Result<()> {
         }
         place = listed.next;
     }
-}
-
-// Reads until the buffer is full or the input ends. Answers how many bytes there were.
-fn read_full(from: &mut impl Read, buffer: &mut [u8]) -> io::Result<usize>
-    ensures { IfOk result (λ n. n ≤ length buffer.new) }
-{
-    let mut done: usize = 0;
-    while done < buffer.len() {
-        let got = from.read(&mut buffer[done..])?;
-        if got == 0 {
-            break;
-        }
-        done += got;
-    }
-    Ok(done)
 }
 
 fn main(rt: HostRuntime) -> io::Result<()> {

@@ -1,8 +1,5 @@
 -- The listing's laws, and lemmas that its proofs cite.
-mod Puts
-mod Names
-mod Numbers
-mod Reasons
+pub mod Texts
 mod Headings
 pub mod Fits
 mod Lines

@@ -1,5 +1,6 @@
 -- Rule 8.12: a listing taken in pieces. Whatever texts of at least 64 bytes the caller has, another for each call, the calls come to an end, and the
 -- pieces joined are the whole text.
+use Rattle.std.specs.Prelude.{Ok}
 use Prim.Native.Nat.{ℕ, zero, suc, ◌+◌, ◌<◌, ◌≤◌}
 use mathlib.Core.Path.{◌≡◌, refl, ◌∙◌, sym, ap, subst}
 use mathlib.Core.Bool.{Bool, true, false}
@@ -8,14 +9,14 @@ use native.Mathlib.Omega.{arith}
 use lib.ListN.{length, length-append}
 use Rattle.seq.specs.Tabulate.{tabulate}
 use Rattle.isa.specs.Kinds.{code_limit, text_least, text_whole}
-use Rattle.run.specs.declared.Answer.{Answer}
-use Rattle.listing.specs.Listing.{headings, headings_at, lines_from, lines_text, listing_text, fitting, remaining, room_for, piece_text, piece_of}
+use Rattle.listing.specs.Listing.{headings, line_text, headings_at, lines_from, lines_text, listing_text, fitting, remaining, room_for, piece_text, piece_of}
 use Rattle.listing.specs.declared.Listed.{Listed}
 use Rattle.listing.specs.Pieces.{called, written, Pieces}
 use Rattle.listing.proofs.Headings.{at_0, elsewhere, headings_most}
 use Rattle.listing.proofs.Fits.{in_two, all_fit, text_append}
 use Rattle.listing.proofs.Bounds.{text_most}
-use Rattle.listing.proofs.Laws.{answers_0, written_is_the_piece, a_piece_continues, the_last_piece_ends}
+use Rattle.listing.proofs.Whole.{answers_0}
+use Rattle.listing.proofs.Laws.{written_is_the_piece, a_piece_continues, the_last_piece_ends}
 
 module _ (code : List ℕ) where
   -- the text from a place on
@@ -24,22 +25,22 @@ module _ (code : List ℕ) where
 
   whole : text_from 0 ≡ listing_text code
   unfolding listing_text
-  whole = ap (λ (h : List ℕ). h ++ lines_text (lines_from code 0)) (at_0 0 refl)
+  whole = ap (λ (h : List ℕ). h ++ lines_text (lines_from code 0)) at_0
 
-  last_piece : (place : ℕ) (text : List ℕ) → (called code place text).answer ≡ Answer.Done → (called code place text).more ≡ false → written code place text ≡ text_from place
+  last_piece : (place : ℕ) (text : List ℕ) → (called code place text).answer ≡ Ok tt → (called code place text).more ≡ false → written code place text ≡ text_from place
   unfolding piece_text
   last_piece place text a m = written_is_the_piece code place text a ∙ ap (λ l. headings_at place ++ lines_text l) (the_last_piece_ends code place text a m).all_written
 
-  one_piece : (place : ℕ) (text : List ℕ) → (called code place text).answer ≡ Answer.Done → (called code place text).more ≡ true
+  one_piece : (place : ℕ) (text : List ℕ) → (called code place text).answer ≡ Ok tt → (called code place text).more ≡ true
       → written code place text ++ text_from (called code place text).next ≡ text_from place
   unfolding piece_text
   one_piece place text a m =
       let c = a_piece_continues code place text m in
       let room = room_for place (length text) in
       let lines = lines_from code place in
-      rw (written_is_the_piece code place text a, elsewhere (called code place text).next (λ e. omega (arith, c.grows)), c.lines)
+      rw (written_is_the_piece code place text a, elsewhere (called code place text).next (omega (arith, c.grows)), c.lines)
       (append_assoc (headings_at place) (lines_text (fitting room lines)) (lines_text (remaining room lines))
-      ∙ ap (λ (t : List ℕ). headings_at place ++ t) (sym (text_append (fitting room lines) (remaining room lines)) ∙ ap lines_text (in_two room lines)))
+      ∙ ap (λ (t : List ℕ). headings_at place ++ t) (sym (text_append line_text (fitting room lines) (remaining room lines)) ∙ ap lines_text (in_two line_text room lines)))
 
   joined_from : (place : ℕ) (texts : List (List ℕ)) (joined : List ℕ) → Pieces code place texts joined → joined ≡ text_from place
   joined_from place texts joined (Pieces.last {place = q} {text = text} a m) = last_piece place text a m
@@ -55,7 +56,7 @@ module _ (code : List ℕ) where
     abbrev Ending : ℕ → (ℕ → List ℕ) → Type 0
     Ending place texts = (n : ℕ) × (joined : List ℕ) × Pieces code place (tabulate n texts) joined
 
-    answered : (place : ℕ) (text : List ℕ) → place ≤ length code → text_least ≤ length text → (called code place text).answer ≡ Answer.Done
+    answered : (place : ℕ) (text : List ℕ) → place ≤ length code → text_least ≤ length text → (called code place text).answer ≡ Ok tt
     unfolding piece_of
     answered place text h s = ap (λ (r : Listed). r.answer) (answers_0 code place (length text) (record { size = s; within = h; short = short }))
 
@@ -67,7 +68,7 @@ module _ (code : List ℕ) where
     unfolding tabulate
     call place h rest texts s = by (called code place (texts 0)).more refl (answered place (texts 0) h (s 0))
       where
-        by : (more : Bool) → (called code place (texts 0)).more ≡ more → (called code place (texts 0)).answer ≡ Answer.Done → Ending place texts
+        by : (more : Bool) → (called code place (texts 0)).more ≡ more → (called code place (texts 0)).answer ≡ Ok tt → Ending place texts
         by false m a = (1, written code place (texts 0), Pieces.last a m)
         by true m a =
             let c = a_piece_continues code place (texts 0) m in
@@ -89,11 +90,11 @@ module _ (code : List ℕ) where
   unfolding listing_text piece_of
   in_one_piece short text s = subst (λ (t : List ℕ). Pieces code 0 (text ∷ []) t) (last_piece 0 text a m ∙ whole) (Pieces.last a m)
     where
-      a : (called code 0 text).answer ≡ Answer.Done
+      a : (called code 0 text).answer ≡ Ok tt
       a = answered short 0 text (omega arith) (omega (arith, s))
 
       fits : length (lines_text (lines_from code 0)) ≤ room_for 0 (length text)
       fits = omega (arith, s, text_most code short, headings_most 0, length-append headings (lines_text (lines_from code 0)))
 
       m : (called code 0 text).more ≡ false
-      m = rw (answers_0 code 0 (length text) (record { size = omega (arith, s); within = omega arith; short = short }), all_fit (room_for 0 (length text)) (lines_from code 0) fits)
+      m = rw (answers_0 code 0 (length text) (record { size = omega (arith, s); within = omega arith; short = short }), all_fit line_text (room_for 0 (length text)) (lines_from code 0) fits)

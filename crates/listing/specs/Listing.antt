@@ -1,16 +1,16 @@
 -- Section 8 of the rules, with requests 3 and 5: a list of instructions as text, and the text in pieces.
-use Rattle.std.specs.Prelude.{ℕ, ◌+◌, ◌-◌, ◌*◌, Bool, true, false, List, [], ◌∷◌, ◌++◌, eqb, leb, length, get_or, drop, if◌then◌else◌}
+use Rattle.std.specs.Prelude.{ℕ, ◌+◌, ◌-◌, ◌*◌, Bool, true, false, List, [], ◌∷◌, ◌++◌, eqb, leb, length, get_or, drop, if◌then◌else◌, Result, Ok, Err}
 use Rattle.seq.specs.Choice.{both}
 use Rattle.isa.specs.Kinds.{code_limit, text_least}
 use Rattle.isa.specs.Features.{all_features}
 use Rattle.isa.specs.Operands.{mnemonic_number, none, width_bytes}
-use Rattle.isa.specs.Refusal.{status_of, reason_of}
+use Rattle.isa.specs.Refusal.{reason_of}
 use Rattle.isa.specs.declared.operands.Mnemonic.{Mnemonic}
 use Rattle.isa.specs.declared.refusal.Refusal.{Refusal}
 use Rattle.isa.specs.declared.refusal.Refusal.TheVariants.{Argument, TooLong}
+use Rattle.decode.specs.Decode.{answer_of}
 use Rattle.decode.specs.declared.instruction.Instruction.{Instruction}
 use Rattle.run.specs.Split.{Split, split}
-use Rattle.run.specs.declared.Answer.{Answer}
 use Rattle.listing.specs.Text.{ascii, decimal}
 use Rattle.listing.specs.declared.Line.{Line}
 use Rattle.listing.specs.declared.Listed.{Listed}
@@ -45,23 +45,40 @@ field text = text ++ ascii "\t"
 unfoldable pub reason_text : ℕ → List ℕ
 reason_text reason = if eqb reason 0 then [] else ascii ":" ++ decimal reason
 
+-- what a line's columns say of a step. A refused one has no length, no name and no bits, and an accepted one no reason
+abbrev pub length_of : Result Instruction Refusal → ℕ
+length_of (Ok x) = x.length
+length_of (Err why) = 0
+
+abbrev pub name_of : Result Instruction Refusal → Mnemonic
+name_of (Ok x) = x.mnemonic
+name_of (Err why) = none
+
+abbrev pub bits_of : Result Instruction Refusal → ℕ
+bits_of (Ok x) = 8 * width_bytes x.width
+bits_of (Err why) = 0
+
+abbrev pub reason_at : Result Instruction Refusal → ℕ
+reason_at (Ok x) = 0
+reason_at (Err why) = reason_of why
+
 unfoldable pub line_text : Line → List ℕ
 line_text l =
     field (decimal l.place)
-    ++ field (decimal l.length)
-    ++ field (name_text l.name)
-    ++ field (decimal l.bits)
-    ++ decimal l.status
-    ++ reason_text l.reason
+    ++ field (decimal (length_of l.step))
+    ++ field (name_text (name_of l.step))
+    ++ field (decimal (bits_of l.step))
+    ++ decimal (answer_of l.step)
+    ++ reason_text (reason_at l.step)
     ++ ascii "\n"
 
 -- a step that decodes
 abbrev pub accepted_line : ℕ → Instruction → Line
-accepted_line place x = record { place = place; length = x.length; name = x.mnemonic; bits = 8 * width_bytes x.width; status = 0; reason = 0 }
+accepted_line place x = record { place = place; step = Ok x }
 
 -- the step that is refused
 abbrev pub refused_line : ℕ → Refusal → Line
-refused_line place why = record { place = place; length = 0; name = none; bits = 0; status = status_of why; reason = reason_of why }
+refused_line place why = record { place = place; step = Err why }
 
 -- rule 8.2: the steps from a place on. Every step that decodes is wanted, memory or not, so that Argument is not given here
 unfoldable pub split_from : List ℕ → ℕ → Split
@@ -73,9 +90,9 @@ step_lines place [] = []
 step_lines place (x ∷ xs) = accepted_line place x ∷ step_lines (place + x.length) xs
 
 -- the line after them: none at the end of the list
-unfoldable pub last_lines : ℕ → Answer → List Line
-last_lines place Answer.Done = []
-last_lines place (Answer.Refused why) = refused_line place why ∷ []
+unfoldable pub last_lines : ℕ → Result Unit Refusal → List Line
+last_lines place (Ok tt) = []
+last_lines place (Err why) = refused_line place why ∷ []
 
 -- where the lines from a place on end: at the list's end, or at the refused step
 unfoldable pub end_from : List ℕ → ℕ → ℕ
@@ -84,9 +101,13 @@ end_from code place = place + (split_from code place).place
 unfoldable pub lines_from : List ℕ → ℕ → List Line
 lines_from code place = let s = split_from code place in step_lines place s.instructions ++ last_lines (end_from code place) s.answer
 
-unfoldable pub lines_text : List Line → List ℕ
-lines_text [] = []
-lines_text (l ∷ ls) = line_text l ++ lines_text ls
+-- the texts of things of any kind, one behind the other; `text` gives that of one
+unfoldable pub texts_by : {A : Type 0} → (A → List ℕ) → List A → List ℕ
+texts_by text [] = []
+texts_by text (x ∷ xs) = text x ++ texts_by text xs
+
+abbrev pub lines_text : List Line → List ℕ
+lines_text = texts_by line_text
 
 -- the whole text of a list: headings, a line for each step, and a line for the refusal if there is one
 unfoldable pub listing_text : List ℕ → List ℕ
@@ -99,12 +120,18 @@ unfoldable pub headings_at : ℕ → List ℕ
 headings_at place = if eqb place 0 then headings else []
 
 -- rule 8.10: as many lines from the front as so many bytes hold, each of them whole; and the others
-unfoldable pub fitting : ℕ → List Line → List Line
-fitting room [] = []
-fitting room (l ∷ ls) = if leb (length (line_text l)) room then l ∷ fitting (room - length (line_text l)) ls else []
+unfoldable pub fitting_by : {A : Type 0} → (A → List ℕ) → ℕ → List A → List A
+fitting_by text room [] = []
+fitting_by text room (x ∷ xs) = if leb (length (text x)) room then x ∷ fitting_by text (room - length (text x)) xs else []
 
-unfoldable pub remaining : ℕ → List Line → List Line
-remaining room ls = drop (length (fitting room ls)) ls
+unfoldable pub remaining_by : {A : Type 0} → (A → List ℕ) → ℕ → List A → List A
+remaining_by text room xs = drop (length (fitting_by text room xs)) xs
+
+abbrev pub fitting : ℕ → List Line → List Line
+fitting = fitting_by line_text
+
+abbrev pub remaining : ℕ → List Line → List Line
+remaining = remaining_by line_text
 
 -- what the headings leave for lines
 abbrev pub room_for : ℕ → ℕ → ℕ
@@ -125,10 +152,10 @@ some_remain (l ∷ ls) = true
 unfoldable pub piece_of : List ℕ → ℕ → ℕ → Listed
 piece_of code place text =
     let left = remaining (room_for place text) (lines_from code place) in
-    record { written = length (piece_text code place text); next = next_place left (end_from code place); more = some_remain left; answer = Answer.Done }
+    record { written = length (piece_text code place text); next = next_place left (end_from code place); more = some_remain left; answer = Ok tt }
 
 abbrev pub refused_listing : Refusal → Listed
-refused_listing why = record { written = 0; next = 0; more = false; answer = Answer.Refused why }
+refused_listing why = record { written = 0; next = 0; more = false; answer = Err why }
 
 -- rule 8.1: the size of the text and the place, which may be the list's end. `code` is a length here
 abbrev pub call_right : ℕ → ℕ → ℕ → Bool

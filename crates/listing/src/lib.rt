@@ -1,33 +1,31 @@
 // A list of instructions as text, in pieces.
 #![tactic(auto)]
 
-ghost use Rattle.std.specs.Prelude.{◌≡◌, ◌∷◌, [], ◌+◌, ◌<◌, ◌≤◌, length, take};
-ghost use Rattle.isa.specs.Kinds.{code_limit, text_least};
+ghost use Rattle.std.specs.Prelude.{◌≡◌, ◌+◌, ◌<◌, ◌≤◌, ◌++◌, length};
+ghost use Rattle.isa.specs.Kinds.{code_limit};
+ghost use Rattle.decode.specs.Decode.{answer_of};
 ghost use Rattle.listing.specs.Text.{decimal};
-ghost use Rattle.listing.specs.Inner.{put_at, name_at, line_most, line_of, fit_of, put_fitting, bytes_from, listed_at, listed_from};
-ghost use Rattle.listing.specs.Listing.{names, field, name_text, reason_text, line_text, headings_at, call_right, refused_listing, listing_of, text_after};
+ghost use Rattle.listing.specs.Inner.{line_most, listed_at, listed_from, filled_from};
+ghost use Rattle.listing.specs.Listing.{field, name_text, length_of, name_of, bits_of, reason_at, reason_text, line_text, headings_at, refused_listing, listing_of, text_after};
 
-use decode::instruction::{Decoded, Instruction};
+use arrayvec::ArrayString;
+use decode::instruction::Instruction;
+use decode::steps::Steps;
 use isa::features::Features;
 use isa::kinds::{Code, Text};
 use isa::operands::Mnemonic;
 use isa::refusal::Refusal;
-use run::Answer;
+use itoa::Buffer;
 
-// What a line says of a step.
+// A step, of which a line speaks.
 #[derive(Clone, Copy)]
 pub struct Line {
+    // Where it starts in the list.
     pub place: usize,
-    pub length: usize,
-    // None for a refused step.
-    pub name: Mnemonic,
-    pub bits: u32,
-    pub status: u32,
-    // Of the wrong field where status is 4, else 0.
-    pub reason: u32,
+    pub step: Result<Instruction, Refusal>,
 }
 
-// A piece of a listing.
+// A piece of a listing. No Option for `next` and `more`: the C interface and the definition `piece_of` have both, and `next` says where lines end, too.
 #[derive(Clone, Copy)]
 pub struct Listed {
     // Bytes of the text.
@@ -36,196 +34,124 @@ pub struct Listed {
     pub next: usize,
     // Whether lines remain.
     pub more: bool,
-    pub answer: Answer,
+    pub answer: Result<(), Refusal>,
 }
 
-// Whether bytes are put into a text: all of them, up to the place behind them, or none.
-#[derive(Clone, Copy)]
-pub enum Fit {
-    Behind(usize),
-    NoRoom,
-}
+type LineText = ArrayString<{ Text::LINE }>;
 
-// Writes one byte, and gives the place behind it.
-fn put(text: &mut [u8], at: usize, byte: u8) -> usize
-    requires { at + 1 ≤ length text.old }
-    ensures { (result ≡ at + 1) × (text.new ≡ put_at text.old at (byte ∷ [])) }
+// A mnemonic that is none of ours has the dash of a refused step.
+fn name_text(name: Mnemonic) -> &'static str
+    ensures { result.now ≡ name_text name }
 {
-    text[at] = byte;
-    at + 1
-}
-
-fn put_all(text: &mut [u8], at: usize, bytes: &[u8]) -> usize
-    requires { at + length bytes.now ≤ length text.old }
-    ensures { (result ≡ at + length bytes.now) × (text.new ≡ put_at text.old at bytes.now) }
-{
-    for i in 0..bytes.len() {
-        text[at + i] = bytes[i];
+    match name.number() {
+        Mnemonic::VPERMILPD => "VPERMILPD",
+        Mnemonic::VPERMB => "VPERMB",
+        Mnemonic::VUNPCKLPS => "VUNPCKLPS",
+        Mnemonic::VPSHUFD => "VPSHUFD",
+        Mnemonic::VPERM2F128 => "VPERM2F128",
+        Mnemonic::VPERMILPS => "VPERMILPS",
+        Mnemonic::VUNPCKHPS => "VUNPCKHPS",
+        Mnemonic::VUNPCKLPD => "VUNPCKLPD",
+        Mnemonic::VUNPCKHPD => "VUNPCKHPD",
+        Mnemonic::VPSHUFB => "VPSHUFB",
+        _ => "-",
     }
-    at + bytes.len()
 }
 
-// The digits in front of the last one, then the last one.
-fn put_number(text: &mut [u8], at: usize, number: usize) -> usize
-    requires { at + length (decimal number) ≤ length text.old }
-    ensures { (result ≡ at + length (decimal number)) × (text.new ≡ put_at text.old at (decimal number)) }
+// `write!` would not do: its contract does not say when it succeeds, and `listing` promises every line that fits.
+fn put_field(text: &mut LineText, column: &str)
+    requires { length text.old.bytes + length column.now < line_most }
+    ensures bytes { text.new.bytes ≡ text.old.bytes ++ field column.now }
+    ensures len { length text.new.bytes ≡ length text.old.bytes + length column.now + 1 }
 {
-    if number < 10 {
-        return put(text, at, number as u8 + b'0');
-    }
-    let last = put_number(text, at, number / 10);
-    put(text, last, (number % 10) as u8 + b'0')
-}
-
-fn put_field(text: &mut [u8], at: usize, number: usize) -> usize
-    requires { at + length (field (decimal number)) ≤ length text.old }
-    ensures { (result ≡ at + length (field (decimal number))) × (text.new ≡ put_at text.old at (field (decimal number))) }
-{
-    let end = put_number(text, at, number);
-    put(text, end, b'\t')
-}
-
-// The names in the order of their numbers, a tab behind each. The first is for no instruction.
-const NAMES: [[u8; 11]; 11] = [
-    *b"-\t         ",
-    *b"VPERMILPD\t ",
-    *b"VPERMB\t    ",
-    *b"VUNPCKLPS\t ",
-    *b"VPSHUFD\t   ",
-    *b"VPERM2F128\t",
-    *b"VPERMILPS\t ",
-    *b"VUNPCKHPS\t ",
-    *b"VUNPCKLPD\t ",
-    *b"VUNPCKHPD\t ",
-    *b"VPSHUFB\t   ",
-];
-// Bytes of each, with the tab.
-const SIZES: [u8; 11] = [2, 10, 7, 10, 8, 11, 10, 10, 10, 10, 8];
-
-// Which of them a mnemonic has: one that is none of ours has the first.
-fn name_index(name: Mnemonic) -> usize
-    ensures { (result < length names) × (name_at result ≡ name_text name) }
-{
-    let number = name.number() as usize;
-    if number < NAMES.len() { number } else { 0 }
-}
-
-fn name_row(index: usize) -> [u8; 11]
-    requires { index < length names }
-    ensures { take (length (field (name_at index))) result ≡ field (name_at index) }
-{
-    NAMES[index]
-}
-
-fn name_size(index: usize) -> u8
-    requires { index < length names }
-    ensures { (result ≡ length (field (name_at index))) × (result ≤ 11) }
-{
-    SIZES[index]
-}
-
-fn put_name(text: &mut [u8], at: usize, name: Mnemonic) -> usize
-    requires { at + length (field (name_text name)) ≤ length text.old }
-    ensures { (result ≡ at + length (field (name_text name))) × (text.new ≡ put_at text.old at (field (name_text name))) }
-{
-    let index = name_index(name);
-    let row = name_row(index);
-    let size = name_size(index) as usize;
-    put_all(text, at, &row[0..size])
+    text.push_str(column);
+    text.push_str("\t");
 }
 
 // What stands behind an answer: a colon and the reason, if there is one.
-fn put_reason(text: &mut [u8], at: usize, reason: u32) -> usize
-    requires { at + length (reason_text reason) ≤ length text.old }
-    ensures { (result ≡ at + length (reason_text reason)) × (text.new ≡ put_at text.old at (reason_text reason)) }
+#[tactic(auto, using(crate::proofs::Texts::texts), unfolding(crate::specs::Listing::reason_text))]
+fn put_reason(text: &mut LineText, reason: u32)
+    requires { length text.old.bytes + length (reason_text reason) ≤ line_most }
+    ensures bytes { text.new.bytes ≡ text.old.bytes ++ reason_text reason }
+    ensures len { length text.new.bytes ≡ length text.old.bytes + length (reason_text reason) }
 {
-    if reason == 0 {
-        return at;
+    if reason > 0 {
+        text.push_str(":");
+        text.push_str(Buffer::new().format(reason));
     }
-    let after_colon = put(text, at, b':');
-    put_number(text, after_colon, reason as usize)
 }
 
-fn put_line(text: &mut [u8], at: usize, line: Line) -> usize
-    requires { at + length (line_text line) ≤ length text.old }
-    ensures { (result ≡ at + length (line_text line)) × (text.new ≡ put_at text.old at (line_text line)) }
-{
-    let name = line.name;
-    let after_place = put_field(text, at, line.place);
-    let after_length = put_field(text, after_place, line.length);
-    let after_name = put_name(text, after_length, name);
-    let after_bits = put_field(text, after_name, line.bits as usize);
-    let after_status = put_number(text, after_bits, line.status as usize);
-    let after_reason = put_reason(text, after_status, line.reason);
-    put(text, after_reason, b'\n')
-}
-
-fn line_of(place: usize, decoded: Decoded) -> Line
-    ensures { result ≡ line_of place decoded }
-{
-    match decoded {
-        Decoded::Accepted(x) => {
-            let mnemonic = x.mnemonic;
-            let width = x.width;
-            Line {
-                place: place,
-                length: x.length,
-                name: mnemonic,
-                bits: 8 * width.bytes() as u32,
-                status: 0,
-                reason: 0,
-            }
+impl Line {
+    // A refused step has no length, no name and no bits.
+    fn columns(self) -> (usize, Mnemonic, u32)
+        ensures { result ≡ (length_of self.step, name_of self.step, bits_of self.step) }
+    {
+        match self.step {
+            Ok(x) => (x.length, x.mnemonic, 8 * u32::from(x.width.bytes())),
+            Err(_) => (0, Mnemonic::of(Mnemonic::NONE), 0),
         }
-        Decoded::Refused(why) => Line {
-            place: place,
-            length: 0,
-            name: Mnemonic::of(Mnemonic::NONE),
-            bits: 0,
-            status: why.status(),
-            reason: why.reason(),
-        },
     }
-}
 
-// A line is made apart, so that it is put in whole or not at all.
-fn put_fitting(text: &mut [u8], at: usize, line: Line) -> Fit
-    requires { (at ≤ length text.old) × (length (line_text line) ≤ line_most) }
-    ensures { (result ≡ fit_of (length text.old) at (line_text line)) × (text.new ≡ put_fitting text.old at (line_text line)) }
-{
-    let mut bytes = [0u8; Text::LINE];
-    let size = put_line(&mut bytes, 0, line);
-    if text.len() - at < size {
-        return Fit::NoRoom;
+    // The answer's number, and that of the reason, which is 0 where there is none.
+    fn answer(self) -> (u32, u32)
+        ensures { result ≡ (answer_of self.step, reason_at self.step) }
+    {
+        match self.step {
+            Ok(_) => (0, 0),
+            Err(why) => (why.status(), why.reason()),
+        }
     }
-    Fit::Behind(put_all(text, at, &bytes[0..size]))
+
+    // A line is made apart, so that it is put in whole or not at all.
+    #[tactic(auto, using(crate::proofs::Texts::texts), unfolding(crate::specs::Listing::line_text))]
+    fn text(self) -> LineText
+        requires { length (line_text self) ≤ line_most }
+        ensures { result.bytes ≡ line_text self }
+    {
+        let (length, name, bits) = self.columns();
+        let (status, reason) = self.answer();
+        let mut text = LineText::new();
+        let mut digits = Buffer::new();
+        put_field(&mut text, digits.format(self.place));
+        put_field(&mut text, digits.format(length));
+        put_field(&mut text, name_text(name));
+        put_field(&mut text, digits.format(bits));
+        text.push_str(digits.format(status));
+        put_reason(&mut text, reason);
+        text.push_str("\n");
+        text
+    }
 }
 
 fn piece(written: usize, next: usize, more: bool) -> Listed
     ensures { result ≡ listed_at written next more }
 {
     Listed {
-        written: written,
-        next: next,
-        more: more,
-        answer: Answer::Done,
+        written,
+        next,
+        more,
+        answer: Ok(()),
     }
 }
 
-// A line for each step from a place on, as many as fit. The first step that is refused has the last one.
+// A line for each step from a place on, as many as fit. The first step that is refused has the last one. `at` is beside `text`, as what is written before
+// counts in the answer: with `&mut text[at..]` the caller would have to take the answer apart and add it, which is no plainer.
 fn put_lines(code: &[u8], place: usize, text: &mut [u8], at: usize) -> Listed
     requires { (place ≤ length code.now) × (length code.now ≤ code_limit) × (at ≤ length text.old) }
-    ensures { (result ≡ listed_from code.now place at (length text.old)) × (text.new ≡ put_at text.old at (bytes_from code.now place at (length text.old))) }
+    ensures { (result ≡ listed_from code.now place at (length text.old)) × (text.new ≡ filled_from code.now place at text.old) }
 {
     let mut next = place;
     let mut end = at;
-    while next < code.len() {
-        let decoded = decode::decode(&code[next..], Features(Features::LIMIT));
-        let fit = put_fitting(text, end, line_of(next, decoded));
-        let Fit::Behind(after) = fit else {
+    for step in Steps::of(&code[place..], Features(Features::LIMIT)) {
+        let line = Line { place: next, step };
+        let bytes = line.text();
+        let size = bytes.len();
+        if text.len() - end < size {
             return piece(end, next, true);
-        };
-        end = after;
-        let Decoded::Accepted(x) = decoded else {
+        }
+        text[end..end + size].copy_from_slice(bytes.as_str().as_bytes());
+        end += size;
+        let Ok(x) = step else {
             return piece(end, next, false);
         };
         next += x.length;
@@ -234,14 +160,15 @@ fn put_lines(code: &[u8], place: usize, text: &mut [u8], at: usize) -> Listed
 }
 
 // The headings stand in front of the first line.
-fn put_headings(text: &mut [u8], place: usize) -> usize
-    requires { text_least ≤ length text.old }
-    ensures { (result ≡ length (headings_at place)) × (text.new ≡ put_at text.old 0 (headings_at place)) }
+#[tactic(auto, unfolding(crate::specs::Listing::headings_at))]
+fn headings_at(place: usize) -> &'static str
+    ensures text { result.now ≡ headings_at place }
+    ensures short { length result.now ≤ 24 }
 {
     if place == 0 {
-        return put_all(text, 0, b"at\tlen\tname\tbits\tanswer\n");
+        return "at\tlen\tname\tbits\tanswer\n";
     }
-    0
+    ""
 }
 
 fn refused(why: Refusal) -> Listed
@@ -251,31 +178,25 @@ fn refused(why: Refusal) -> Listed
         written: 0,
         next: 0,
         more: false,
-        answer: Answer::Refused(why),
+        answer: Err(why),
     }
 }
 
-// Answer 1: the text's size, then the place, which may be the list's end.
-fn call_right(code: usize, place: usize, text: usize) -> bool
-    ensures { result ≡ call_right code place text }
-{
-    if text < Text::LEAST {
-        return false;
-    }
-    place <= code
-}
-
-// Writes as many whole lines of the listing as fit, from a place in the list on, to the front of the text. What the text
+// Writes, into memory of the caller's of which a part may be used, as many whole lines of the listing as fit, from a place in the list on, to the front of the text. What the text
 // holds behind them stays.
+#[tactic(auto, unfolding(crate::specs::Listing::listing_of, crate::specs::Listing::text_after))]
 pub fn listing(code: &[u8], place: usize, text: &mut [u8]) -> Listed
     ensures { (result ≡ listing_of code.now place (length text.old)) × (text.new ≡ text_after code.now place text.old) }
 {
-    if call_right(code.len(), place, text.len()) {
-        if Code::LIMIT < code.len() {
-            return refused(Refusal::TooLong);
-        }
-        let lines = put_headings(text, place);
-        return put_lines(code, place, text, lines);
+    // The place may be the list's end.
+    if text.len() < Text::LEAST || code.len() < place {
+        return refused(Refusal::Argument);
     }
-    refused(Refusal::Argument)
+    if Code::LIMIT < code.len() {
+        return refused(Refusal::TooLong);
+    }
+    let headings = headings_at(place);
+    let size = headings.len();
+    text[..size].copy_from_slice(headings.as_bytes());
+    put_lines(code, place, text, size)
 }

@@ -21,7 +21,6 @@ use Rattle.isa.specs.declared.operands.Control.{Control}
 use Rattle.isa.specs.declared.operands.Move.{Move}
 use Rattle.isa.specs.declared.operands.Move.TheVariants.{ByDigit, InLane, Anywhere, Halves, LaneOrZero, InLaneOrZero}
 use Rattle.isa.proofs.Sizes.{element_divides, width_lanes, starts_above, starts_below}
-use Rattle.decode.specs.declared.instruction.First as FirstSource
 use Rattle.decode.specs.declared.instruction.Third as ThirdOperand
 use Rattle.decode.specs.declared.instruction.Instruction.{Instruction}
 use Rattle.moves.specs.Pick.{per_lane, digit, halves, lane_or_zero, in_lane_or_zero, pick_of}

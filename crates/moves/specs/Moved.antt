@@ -6,22 +6,21 @@ use Rattle.isa.specs.Kinds.{registers, register_bytes, offset_of}
 use Rattle.isa.specs.Operands.{element_bytes}
 use Rattle.isa.specs.declared.kinds.Reg.{Reg}
 use Rattle.isa.specs.declared.operands.Control.{Control}
-use Rattle.decode.specs.declared.instruction.First as FirstSource
 use Rattle.decode.specs.declared.instruction.Third as ThirdOperand
-use Rattle.decode.specs.declared.instruction.Immediate.{Immediate}
 use Rattle.decode.specs.declared.instruction.Instruction.{Instruction}
 use Rattle.moves.specs.Origin.{bits_of, origin_of}
 use Rattle.moves.specs.declared.Origin.{Origin}
 use Rattle.moves.specs.declared.Origin.TheVariants.{First, Third, Destination, Zero}
+use Rattle.std.specs.Prelude.{Option, Some, None}
 
 -- rule 1.2: byte i of a register
 abbrev pub register_at : {A : Type 0} → A → List A → Reg → ℕ → A
 register_at z file r i = get_or file (offset_of r i).0 z
 
 -- the first source; a form that has none moves nothing from it
-abbrev pub first_register : FirstSource.First → Reg
-first_register (FirstSource.First.Register r) = r
-first_register FirstSource.First.Absent = record { 0 = 0 }
+abbrev pub first_register : Option Reg → Reg
+first_register (Some r) = r
+first_register None = record { 0 = 0 }
 
 -- rule 4.3: the third operand, as a part of the file or as the memory
 abbrev pub third_part : {A : Type 0} → ThirdOperand.Third → List A → List A → List A
@@ -33,9 +32,9 @@ abbrev pub repeated : {A : Type 0} → A → List A → ℕ → A
 repeated z part i = get_or part (i % length part) z
 
 -- rule 4.5: where the control stands. In a register it is byte 0 of element j
-abbrev pub immediate_byte : Immediate → ℕ
-immediate_byte (Immediate.Byte b) = b
-immediate_byte Immediate.Absent = 0
+abbrev pub immediate_byte : Option ℕ → ℕ
+immediate_byte (Some b) = b
+immediate_byte None = 0
 
 abbrev pub control_by : Control → ℕ → ℕ → ℕ → ℕ
 control_by Control.Nowhere immediate first third = 0

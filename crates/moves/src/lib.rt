@@ -1,15 +1,17 @@
-// For each element of the destination, where it comes from.
+// For each element of the destination, where it comes from; and new entries put into a register.
 #![tactic(auto)]
 
 ghost use Rattle.std.specs.Prelude.{◌≡◌, ◌+◌, ◌*◌, ◌/◌, ◌%◌, ◌^◌, ◌<◌, ◌≤◌, get_or};
+ghost use Rattle.seq.specs.Tabulate.{tabulate};
+ghost use Rattle.isa.specs.Kinds.{registers, file_size};
 ghost use Rattle.isa.specs.Operands.{width_bytes, element_bytes, digit_bits};
 ghost use Rattle.moves.specs.Pick.{per_lane, group_start, digit, picks, in_lane, half_start, halves, lane_or_zero, in_lane_or_zero, pick_of};
-ghost use Rattle.moves.specs.Moved.{first_register, immediate_byte};
-ghost use Rattle.moves.specs.Origin.{bits_of, written, origin_by, masked_off};
+ghost use Rattle.moves.specs.Moved.{first_register, immediate_byte, control_by, placed};
+ghost use Rattle.moves.specs.Origin.{bits_of, written, origin_by, origin_of, masked_off};
 
-use decode::instruction::{First, Immediate};
-use isa::kinds::{Mask, Reg};
-use isa::operands::{Digits, Element, Half, Move, Width};
+use decode::instruction::Instruction;
+use isa::kinds::{Mask, Offset, Reg, RegisterFile};
+use isa::operands::{Control, Digits, Element, Half, Move, Width};
 
 // An element of the first source, of the third operand or of the old destination, or zero.
 #[derive(Clone, Copy)]
@@ -21,23 +23,17 @@ pub enum Origin {
 }
 
 // The immediate, and 0 where there is none.
-pub fn immediate_byte(immediate: Immediate) -> u8
+pub fn immediate_byte(immediate: Option<u8>) -> u8
     ensures { result ≡ immediate_byte immediate }
 {
-    match immediate {
-        Immediate::Byte(byte) => byte,
-        Immediate::Absent => 0,
-    }
+    immediate.unwrap_or(0)
 }
 
 // The first source; a form that has none moves nothing from it.
-pub fn first_register(first: First) -> Reg
+pub fn first_register(first: Option<Reg>) -> Reg
     ensures { result ≡ first_register first }
 {
-    match first {
-        First::Register(register) => register,
-        First::Absent => Reg::of(0, 0),
-    }
+    first.unwrap_or(Reg::of(0, 0))
 }
 
 // Where element p starts.
@@ -61,6 +57,7 @@ fn pick_at(four: [u8; 4], j: u8) -> u8
 }
 
 // The digit of a control that is element j's.
+#[tactic(auto, using(crate::proofs::Digits::pick_at), unfolding(crate::specs::Pick::digit))]
 fn digit_of(digits: Digits, c: u8, j: u8) -> u8
     ensures { result ≡ digit (digit_bits digits) c j }
 {
@@ -78,14 +75,6 @@ fn count(width: Width, element: Element) -> u8
     width.bytes() / element.bytes()
 }
 
-// Element k's number in its group of g.
-fn in_group(g: u8, k: u8) -> u8
-    requires { 0 < g }
-    ensures { result ≡ k % g }
-{
-    k % g
-}
-
 // The first element of j's group of g.
 fn group_start(g: u8, j: u8) -> u8
     requires { 0 < g }
@@ -94,6 +83,8 @@ fn group_start(g: u8, j: u8) -> u8
     j - j % g
 }
 
+// The control, the element and its number go to each move apart, as the definitions have them (`in_lane`, `pick_of`): a struct would only
+// put a name before each.
 fn by_digit(digits: Digits, group: Width, element: Element, c: u8, j: u8) -> u16
     ensures { result ≡ group_start (width_bytes group / element_bytes element) j + digit (digit_bits digits) c j }
 {
@@ -102,6 +93,7 @@ fn by_digit(digits: Digits, group: Width, element: Element, c: u8, j: u8) -> u16
 }
 
 // The control without the bits below one of them.
+#[tactic(auto, using(crate::proofs::Rules::no_bits_left))]
 fn from_bit(bit: u8, c: u8) -> u8
     ensures { result ≡ c / 2 ^ bit }
 {
@@ -112,13 +104,13 @@ fn in_lane(bit: u8, element: Element, c: u8, j: u8) -> u16
     ensures { result ≡ in_lane bit (element_bytes element) c j }
 {
     let e = count(Width::Bits128, element);
-    group_start(e, j) as u16 + in_group(e, from_bit(bit, c)) as u16
+    group_start(e, j) as u16 + (from_bit(bit, c) % e) as u16
 }
 
 fn anywhere(width: Width, element: Element, c: u8) -> u16
     ensures { result ≡ c % (width_bytes width / element_bytes element) }
 {
-    in_group(count(width, element), c) as u16
+    (c % count(width, element)) as u16
 }
 
 // Where a half of a lane of e elements begins.
@@ -131,47 +123,50 @@ fn half_start(half: Half, e: u8) -> u8
     }
 }
 
+#[tactic(auto, unfolding(crate::specs::Pick::halves))]
 fn halves(half: Half, element: Element, j: u8) -> Origin
     ensures { result ≡ halves half (per_lane (element_bytes element)) j }
 {
     let e = count(Width::Bits128, element);
-    let k = in_group(e, j);
+    let k = j % e;
     let in_lane = half_start(half, e) as u16 + (k / 2) as u16;
     let from = group_start(e, j) as u16 + in_lane;
     if k % 2 == 0 {
-        return Origin::First(from);
+        Origin::First(from)
+    } else {
+        Origin::Third(from)
     }
-    Origin::Third(from)
 }
 
 // The lane that four bits choose.
+#[tactic(auto, unfolding(crate::specs::Pick::lane_or_zero))]
 fn lane_or_zero(s: u8) -> Origin
     ensures { result ≡ lane_or_zero s }
 {
-    let clear = s / 8 % 2;
-    let second = s / 2 % 2;
     let lane = (s % 2) as u16;
-    if clear == 1 {
-        return Origin::Zero;
+    if s / 8 % 2 == 1 {
+        Origin::Zero
+    } else if s / 2 % 2 == 0 {
+        Origin::First(lane)
+    } else {
+        Origin::Third(lane)
     }
-    if second == 0 {
-        return Origin::First(lane);
-    }
-    Origin::Third(lane)
 }
 
 // The element of the lane that the control's low bits name, unless its bit 7 clears it.
+#[tactic(auto, unfolding(crate::specs::Pick::in_lane_or_zero))]
 fn in_lane_or_zero(element: Element, c: u8, j: u8) -> Origin
     ensures { result ≡ in_lane_or_zero (element_bytes element) c j }
 {
-    let bit_7 = c / 128 % 2;
-    if bit_7 == 1 {
-        return Origin::Zero;
+    if c / 128 % 2 == 1 {
+        Origin::Zero
+    } else {
+        Origin::First(in_lane(0, element, c, j))
     }
-    Origin::First(in_lane(0, element, c, j))
 }
 
 // Element j of a full result, for a control c.
+#[tactic(auto, unfolding(crate::specs::Pick::pick_of))]
 fn pick(moves: Move, element: Element, width: Width, c: u8, j: u8) -> Origin
     ensures { result ≡ pick_of moves (element_bytes element) (width_bytes width) c j }
 {
@@ -185,18 +180,21 @@ fn pick(moves: Move, element: Element, width: Width, c: u8, j: u8) -> Origin
     }
 }
 
-// The elements that a mask number lets through, a bit each: all of them for number 0.
+// The elements that a mask number lets through, a bit each: all of them, which is the largest number, for number 0.
+#[tactic(auto, unfolding(crate::specs::Origin::bits_of))]
 pub fn mask_bits(masks: &[u64], mask: Mask) -> u64
     ensures { result ≡ bits_of masks.now mask }
 {
     let k = mask.number() as usize;
     if k == 0 {
-        return u64::MAX;
+        u64::MAX
+    } else {
+        masks.get(k).copied().unwrap_or(0)
     }
-    if k < masks.len() { masks[k] } else { 0 }
 }
 
 // Whether element j is let through.
+#[tactic(auto, using(crate::proofs::Rules::none_past_64), unfolding(crate::specs::Origin::written))]
 fn is_written(bits: u64, j: u8) -> bool
     ensures { result ≡ written bits j }
 {
@@ -214,7 +212,9 @@ fn masked_off(zeroing: bool, j: u8) -> Origin
     }
 }
 
-// Element j of the destination, for a control c and the elements that are written.
+// Element j of the destination, for a control c and the elements that are written. The parts of the instruction are apart, as in the
+// definition (`origin_by`).
+#[tactic(auto, unfolding(crate::specs::Origin::origin_by))]
 pub fn origin_of(
     moves: Move,
     element: Element,
@@ -233,4 +233,32 @@ pub fn origin_of(
         return pick(moves, element, width, c, j);
     }
     masked_off(zeroing, j)
+}
+
+// The control of an element: the immediate, or the byte of its source where the element starts.
+fn control(x: Instruction, byte: u8) -> u8
+    ensures { result ≡ control_by x.control (immediate_byte x.immediate) byte byte }
+{
+    match x.control {
+        Control::Nowhere => 0,
+        Control::Immediate => immediate_byte(x.immediate),
+        Control::First | Control::Third => byte,
+    }
+}
+
+// Where element j comes from, by that byte.
+pub fn origin_at(x: Instruction, bits: u64, byte: u8, j: u8) -> Origin
+    ensures { result ≡ origin_of x bits (control_by x.control (immediate_byte x.immediate) byte byte) j }
+{
+    let c = control(x, byte);
+    origin_of(x.moves, x.element, x.width, x.zeroing, bits, c, j)
+}
+
+// Puts 64 entries into a register, which is a part of a file of fixed size.
+pub fn put<T: Copy>(file: &mut [T; RegisterFile::SIZE], register: Reg, new: &[T; 64])
+    ensures { (z : T) → file.new ≡ tabulate file_size (placed z file.old (register.0 % registers) (λ i. get_or new.now i z)) }
+{
+    let start = Offset::of(register, 0).number() as usize;
+    let entries = &mut file[..];
+    entries[start..start + 64].copy_from_slice(new);
 }

@@ -1,5 +1,6 @@
 -- The laws of runs, rules 6.4 to 6.8: how many steps there are and how far they come, which budget is enough, what more budget changes, a run in two
 -- parts, and a run of one step.
+use Rattle.std.proofs.Common.{Result, Ok, Err}
 use Prim.Native.Nat.{ℕ, ◌+◌, ◌*◌, ◌<◌, ◌≤◌}
 use mathlib.Core.Path.{◌≡◌, refl, sym, ◌∙◌, ap}
 use mathlib.Core.Bool.{Bool, true, false}
@@ -17,14 +18,11 @@ use Rattle.isa.specs.declared.refusal.Refusal.{Refusal}
 use Rattle.isa.specs.declared.refusal.Refusal.TheVariants.{Argument, MemoryLength, TooLong}
 use Rattle.decode.specs.Decode.{decode_of}
 use Rattle.decode.specs.declared.instruction.Instruction.{Instruction}
-use Rattle.decode.specs.declared.instruction.Decoded.{Decoded}
 use Rattle.moves.proofs.Laws.{length_moved}
 use Rattle.step.specs.Step.{moved_file, executed_of, executed_file, sizes_right, step_of, file_after}
-use Rattle.step.specs.declared.Stepped.{Stepped}
 use Rattle.run.specs.Split.{Split, stopped, split}
 use Rattle.run.specs.Run.{whole_budget, without_memory, run_split, files_of, stepped_run, stepped_file, refused_run, run_of, file_after_run}
 use Rattle.run.proofs.Splits.{joined, counted, settled, in_two, refusal_stays, empty_cut, no_done}
-use Rattle.run.specs.declared.Answer.{Answer}
 use Rattle.run.specs.declared.Ran.{Ran}
 
 pub files_join : (xs ys : List Instruction) (masks file : List ℕ) → files_of (xs ++ ys) masks file ≡ files_of ys masks (files_of xs masks file)
@@ -96,15 +94,15 @@ module _ (code masks : List ℕ) (features : ℕ) (file : List ℕ) where
       by false p u q v r w s = stops Argument (λ b. rw p) (λ b. rw p)
 
 -- a budget of 4,096 reaches the end or a refusal
-stepped_to_the_end : (code : List ℕ) (features : ℕ) → length code ≤ code_limit → (stepped_run code features whole_budget).answer ≡ Answer.Done → (stepped_run code features whole_budget).place ≡ length code
+stepped_to_the_end : (code : List ℕ) (features : ℕ) → length code ≤ code_limit → (stepped_run code features whole_budget).answer ≡ (Ok tt) → (stepped_run code features whole_budget).place ≡ length code
 unfolding stepped_run run_split
 stepped_to_the_end code features h e = settled without_memory MemoryLength features whole_budget code (omega arith) e
 
-pub reaches_the_end : (code masks : List ℕ) (features : ℕ) (file : List ℕ) → (ran_of code masks features whole_budget file).answer ≡ Answer.Done
+pub reaches_the_end : (code masks : List ℕ) (features : ℕ) (file : List ℕ) → (ran_of code masks features whole_budget file).answer ≡ (Ok tt)
     → (ran_of code masks features whole_budget file).place ≡ length code
 reaches_the_end code masks features file e = by (case_of code masks features file) e
   where
-    by : Case code masks features file → (ran_of code masks features whole_budget file).answer ≡ Answer.Done → (ran_of code masks features whole_budget file).place ≡ length code
+    by : Case code masks features file → (ran_of code masks features whole_budget file).answer ≡ (Ok tt) → (ran_of code masks features whole_budget file).place ≡ length code
     by (goes p) g = let r = run_is code masks features file p whole_budget in rw r (stepped_to_the_end code features p.short (rw r at g))
     by (stops why f h) g = absurd (no_done why (rw (f whole_budget) at g))
 
@@ -114,21 +112,21 @@ reaches_the_end code masks features file e = by (case_of code masks features fil
 abbrev pub added : Ran → Ran → Ran
 added r s = record { steps = r.steps + s.steps; place = r.place + s.place; answer = s.answer }
 
-stepped_in_two : (code : List ℕ) (features n m : ℕ) → (stepped_run code features n).answer ≡ Answer.Done
+stepped_in_two : (code : List ℕ) (features n m : ℕ) → (stepped_run code features n).answer ≡ (Ok tt)
     → stepped_run code features (n + m) ≡ added (stepped_run code features n) (stepped_run (drop (stepped_run code features n).place code) features m)
 unfolding stepped_run run_split
 stepped_in_two code features n m e =
     ap (λ (s : Split). record { steps = length s.instructions; place = s.place; answer = s.answer }) (in_two without_memory MemoryLength features n m code e)
     ∙ rw (length-append (run_split code features n).instructions (run_split (drop (run_split code features n).place code) features m).instructions)
 
-files_in_two : (code masks : List ℕ) (features n m : ℕ) (file : List ℕ) → (stepped_run code features n).answer ≡ Answer.Done
+files_in_two : (code masks : List ℕ) (features n m : ℕ) (file : List ℕ) → (stepped_run code features n).answer ≡ (Ok tt)
     → stepped_file code masks features (n + m) file ≡ stepped_file (drop (stepped_run code features n).place code) masks features m (stepped_file code masks features n file)
 unfolding stepped_run stepped_file run_split
 files_in_two code masks features n m file e =
     ap (λ (s : Split). files_of s.instructions masks file) (in_two without_memory MemoryLength features n m code e)
     ∙ files_join (run_split code features n).instructions (run_split (drop (run_split code features n).place code) features m).instructions masks file
 
-joined_end : (s : Split) → s.answer ≡ Answer.Done → joined s (stopped Answer.Done) ≡ s
+joined_end : (s : Split) → s.answer ≡ (Ok tt) → joined s (stopped (Ok tt)) ≡ s
 joined_end s e = λ i. record { instructions = append-nil s.instructions i; place = add-zero s.place i; answer = sym e i }
 
 module _ (code masks : List ℕ) (features n m : ℕ) (file : List ℕ) where
@@ -152,15 +150,15 @@ module _ (code masks : List ℕ) (features n m : ℕ) (file : List ℕ) where
       let q = rest_passes p k in
       record { file_has_size = length_files (run_split code features n).instructions masks file ∙ q.file_has_size; masks_have_count = q.masks_have_count; known = q.known; short = q.short }
 
-  pub in_two_runs : part.answer ≡ Answer.Done → InTwo
+  pub in_two_runs : part.answer ≡ (Ok tt) → InTwo
   in_two_runs e = by (case_of code masks features file) e
     where
-      by : Case code masks features file → part.answer ≡ Answer.Done → InTwo
+      by : Case code masks features file → part.answer ≡ (Ok tt) → InTwo
       by (goes p) g =
           let is = run_is code masks features file p in
           let k = (stepped_run code features n).place in
           let left = stepped_file code masks features n file in
-          let done : (stepped_run code features n).answer ≡ Answer.Done = rw (is n) at g in
+          let done : (stepped_run code features n).answer ≡ (Ok tt) = rw (is n) at g in
           record {
             numbers = rw (is (n + m), is n, file_is code masks features file p n, run_is (drop k code) masks features left (left_passes p k) m) (stepped_in_two code features n m done);
             bytes = rw (is n, file_is code masks features file p (n + m), file_is code masks features file p n, file_is (drop k code) masks features left (left_passes p k) m) (files_in_two code masks features n m file done);
@@ -181,37 +179,37 @@ module _ (code masks : List ℕ) (features n m : ℕ) (file : List ℕ) where
         bytes = file_is code masks features file p (n + m) ∙ ap (λ (s : Split). files_of s.instructions masks file) q ∙ sym (file_is code masks features file p n);
       }
 
-  split_refused : (why : Refusal) → (stepped_run code features n).answer ≡ Answer.Refused why → run_split code features (n + m) ≡ run_split code features n
+  split_refused : (why : Refusal) → (stepped_run code features n).answer ≡ Err why → run_split code features (n + m) ≡ run_split code features n
   unfolding stepped_run run_split
   split_refused why e = refusal_stays without_memory MemoryLength features n m code why e
 
-  pub a_refusal_stays : (why : Refusal) → part.answer ≡ Answer.Refused why → Same
+  pub a_refusal_stays : (why : Refusal) → part.answer ≡ Err why → Same
   a_refusal_stays why e = by (case_of code masks features file) e
     where
-      by : Case code masks features file → part.answer ≡ Answer.Refused why → Same
+      by : Case code masks features file → part.answer ≡ Err why → Same
       by (goes p) g = same_split p (split_refused why (rw (run_is code masks features file p n) at g))
       by (stops r f h) g = record { numbers = f (n + m) ∙ sym (f n); bytes = h (n + m) ∙ sym (h n) }
 
-  split_ended : (stepped_run code features n).answer ≡ Answer.Done → (stepped_run code features n).place ≡ length code → run_split code features (n + m) ≡ run_split code features n
+  split_ended : (stepped_run code features n).answer ≡ (Ok tt) → (stepped_run code features n).place ≡ length code → run_split code features (n + m) ≡ run_split code features n
   unfolding stepped_run run_split
   split_ended e q =
       in_two without_memory MemoryLength features n m code e
       ∙ ap (joined (run_split code features n)) (empty_cut without_memory MemoryLength features m (drop (run_split code features n).place code) (omega (arith, q, length-drop (run_split code features n).place code)))
       ∙ joined_end (run_split code features n) e
 
-  pub the_end_stays : part.answer ≡ Answer.Done → part.place ≡ length code → Same
+  pub the_end_stays : part.answer ≡ (Ok tt) → part.place ≡ length code → Same
   the_end_stays e q = by (case_of code masks features file) e q
     where
-      by : Case code masks features file → part.answer ≡ Answer.Done → part.place ≡ length code → Same
+      by : Case code masks features file → part.answer ≡ (Ok tt) → part.place ≡ length code → Same
       by (goes p) g h = let r = run_is code masks features file p n in same_split p (split_ended (rw r at g) (rw r at h))
       by (stops r f j) g h = absurd (no_done r (rw (f n) at g))
 
 -- ---- a run of one step is a step
 
 -- a step's answer as a run's
-abbrev pub of_step : Stepped → Ran
-of_step (Stepped.Done n) = record { steps = 1; place = n; answer = Answer.Done }
-of_step (Stepped.Refused why) = record { steps = 0; place = 0; answer = Answer.Refused why }
+abbrev pub of_step : Result ℕ Refusal → Ran
+of_step (Ok n) = record { steps = 1; place = n; answer = (Ok tt) }
+of_step (Err why) = record { steps = 0; place = 0; answer = Err why }
 
 pub record OneStep (code masks : List ℕ) (features : ℕ) (file : List ℕ) : Type 0 where
   pub numbers : ran_of code masks features 1 file ≡ of_step (step_of code (length file) (length masks) features 0)
@@ -222,7 +220,7 @@ module _ (code masks : List ℕ) (features : ℕ) (file : List ℕ) (some : 0 < 
   not_empty = ne_eqb (length code) 0 (λ e. omega (arith, some))
 
   -- by the sizes, the features, what is decoded, and whether it wants memory
-  on_wanted : (x : Instruction) → sizes_right (length file) (length masks) ≡ true → features_known features ≡ true → decode_of code features ≡ Decoded.Accepted x → (w : Bool) → without_memory x ≡ w
+  on_wanted : (x : Instruction) → sizes_right (length file) (length masks) ≡ true → features_known features ≡ true → decode_of code features ≡ Ok x → (w : Bool) → without_memory x ≡ w
       → OneStep code masks features file
   unfolding run_of file_after_run stepped_run stepped_file run_split split files_of step_of file_after executed_of executed_file
   on_wanted x t k d true w =
@@ -232,12 +230,12 @@ module _ (code masks : List ℕ) (features : ℕ) (file : List ℕ) (some : 0 < 
       let l = le-leb (length code) code_limit short in
       record { numbers = rw (t, k, l, not_empty, d, w); bytes = rw (t, k, l, not_empty, d, w) }
 
-  on_decoded_is : sizes_right (length file) (length masks) ≡ true → features_known features ≡ true → (d : Decoded) → decode_of code features ≡ d → OneStep code masks features file
+  on_decoded_is : sizes_right (length file) (length masks) ≡ true → features_known features ≡ true → (d : Result Instruction Refusal) → decode_of code features ≡ d → OneStep code masks features file
   unfolding run_of file_after_run stepped_run stepped_file run_split split files_of step_of file_after
-  on_decoded_is t k (Decoded.Refused why) d =
+  on_decoded_is t k (Err why) d =
       let l = le-leb (length code) code_limit short in
       record { numbers = rw (t, k, l, not_empty, d); bytes = rw (t, k, l, not_empty, d) }
-  on_decoded_is t k (Decoded.Accepted x) d = on_wanted x t k d (without_memory x) refl
+  on_decoded_is t k (Ok x) d = on_wanted x t k d (without_memory x) refl
 
   pub a_run_of_one_is_a_step : OneStep code masks features file
   unfolding run_of file_after_run step_of file_after decode_of

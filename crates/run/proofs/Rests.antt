@@ -1,4 +1,5 @@
 -- What loops over a list's steps go by: the split of what is left, from a place on.
+use Rattle.std.proofs.Common.{Ok, Err}
 use Prim.Native.Nat.{ℕ, suc, ◌+◌, ◌-◌, ◌<◌, ◌≤◌}
 use mathlib.Core.Path.{◌≡◌, ◌∙◌, ap}
 use mathlib.Core.Bool.{Bool, true, false}
@@ -12,9 +13,7 @@ use Rattle.isa.specs.declared.refusal.Refusal.{Refusal}
 use Rattle.decode.specs.Decode.{decode_of}
 use Rattle.decode.proofs.Laws.{accepted_size}
 use Rattle.decode.specs.declared.instruction.Instruction.{Instruction}
-use Rattle.decode.specs.declared.instruction.Decoded.{Decoded}
 use Rattle.run.specs.Split.{Split, stopped, followed, split}
-use Rattle.run.specs.declared.Answer.{Answer}
 use Rattle.run.proofs.Splits.{next_cut, enough}
 
 -- the code from a place on, as the decoder is handed it
@@ -25,7 +24,7 @@ module _ (wanted : Instruction → Bool) (why : Refusal) (features : ℕ) (code 
   abbrev pub rest : ℕ → Split
   rest place = split wanted why features (length code - place) (drop place code)
 
-  pub rest_ends : (place : ℕ) → length code ≤ place → rest place ≡ stopped Answer.Done
+  pub rest_ends : (place : ℕ) → length code ≤ place → rest place ≡ stopped (Ok tt)
   unfolding split
   rest_ends place h = let z : length code - place ≡ 0 = omega arith in rw z
 
@@ -36,11 +35,11 @@ module _ (wanted : Instruction → Bool) (why : Refusal) (features : ℕ) (code 
     some_left : eqb (length (drop place code)) 0 ≡ false
     some_left = ne_eqb (length (drop place code)) 0 (λ q. omega (arith, length-drop place code))
 
-    pub rest_refused : (r : Refusal) → decode_of (drop place code) features ≡ Decoded.Refused r → rest place ≡ stopped (Answer.Refused r)
+    pub rest_refused : (r : Refusal) → decode_of (drop place code) features ≡ Err r → rest place ≡ stopped (Err r)
     unfolding split
     rest_refused r d = rw (one_more, some_left, d)
 
-    pub rest_unwanted : (x : Instruction) → decode_of (drop place code) features ≡ Decoded.Accepted x → wanted x ≡ false → rest place ≡ stopped (Answer.Refused why)
+    pub rest_unwanted : (x : Instruction) → decode_of (drop place code) features ≡ Ok x → wanted x ≡ false → rest place ≡ stopped (Err why)
     unfolding split
     rest_unwanted x d m = rw (one_more, some_left, d, m)
 
@@ -50,7 +49,7 @@ module _ (wanted : Instruction → Bool) (why : Refusal) (features : ℕ) (code 
       pub most : place + x.length ≤ length code
       pub follows : rest place ≡ followed x (rest (place + x.length))
 
-    pub next_is : (x : Instruction) → decode_of (drop place code) features ≡ Decoded.Accepted x → wanted x ≡ true → Next x
+    pub next_is : (x : Instruction) → decode_of (drop place code) features ≡ Ok x → wanted x ≡ true → Next x
     next_is x d m =
         let s = accepted_size (drop place code) features x d in
         let n = x.length in

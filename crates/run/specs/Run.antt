@@ -1,6 +1,6 @@
 -- Rules 6.2 to 6.6: running a list. The steps, the place and the answer are those of the list's split under the budget, and the file after them is
 -- what those steps give, each on the file that the one before it left.
-use Rattle.std.specs.Prelude.{ℕ, Bool, List, [], ◌∷◌, eqb, leb, length, if◌then◌else◌}
+use Rattle.std.specs.Prelude.{ℕ, Bool, List, [], ◌∷◌, eqb, leb, length, if◌then◌else◌, Err}
 use Rattle.seq.specs.Choice.{both}
 use Rattle.isa.specs.Kinds.{code_limit}
 use Rattle.isa.specs.Features.{features_known}
@@ -10,7 +10,6 @@ use Rattle.decode.specs.Instruction.{wanted_of}
 use Rattle.decode.specs.declared.instruction.Instruction.{Instruction}
 use Rattle.step.specs.Step.{moved_file, sizes_right}
 use Rattle.run.specs.Split.{Split, split}
-use Rattle.run.specs.declared.Answer.{Answer}
 use Rattle.run.specs.declared.Ran.{Ran}
 
 -- rule 6.7, request 5: a budget that reaches the end, or a refusal, of every list that answer 8 lets pass
@@ -38,7 +37,7 @@ unfoldable pub stepped_file : List ℕ → List ℕ → ℕ → ℕ → List ℕ
 stepped_file code masks features budget file = files_of (run_split code features budget).instructions masks file
 
 abbrev pub refused_run : Refusal → Ran
-refused_run why = record { steps = 0; place = 0; answer = Answer.Refused why }
+refused_run why = record { steps = 0; place = 0; answer = Err why }
 
 -- rule 6.2: sizes and features, then the list's length, then the steps. `file` and `masks` are lengths
 unfoldable pub run_of : List ℕ → ℕ → ℕ → ℕ → ℕ → Ran

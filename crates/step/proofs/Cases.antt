@@ -1,5 +1,6 @@
 -- The worked cases' bytes moved. Those that name places are tested once on a file whose bytes are their own places, and carried to every file; the
 -- others are computed.
+use Rattle.std.proofs.Common.{Result, Ok, Err}
 use Prim.Native.Nat.{ℕ, ◌+◌, ◌*◌, ◌%◌, ◌<◌}
 use mathlib.Core.Path.{◌≡◌, refl, sym, ◌∙◌, ap}
 use mathlib.Core.Bool.{Bool, true, false}
@@ -16,16 +17,15 @@ use Rattle.seq.proofs.Tabulate.{length_tabulate, tabulate_get_d, map_tabulate}
 use Rattle.seq.proofs.Parts.{every, at_every}
 use Rattle.isa.specs.Kinds.{file_size, mask_count, register_bytes, registers, zero_entry}
 use Rattle.isa.specs.Features.{all_features, has_feature}
-use Rattle.isa.specs.Operands.{width_of, element_of, digits_of, half_of, move_from, control_of}
+use Rattle.isa.specs.Operands.{width_of}
 use Rattle.isa.specs.Table.{rows, find_in, matches_row, matches_w}
 use Rattle.decode.specs.Prefix.{prefix_size, prefix_of, fixed_bits, head_of}
 use Rattle.decode.specs.Modrm.{sib_size, displacement_size}
 use Rattle.decode.specs.Reserved.{wrong_w, wrong_width, wrong_vvvv, wrong_broadcast, wrong_zeroing, check_of, needed_of, enough_of}
-use Rattle.decode.specs.Instruction.{encoding_of, first_of, third_of, immediate_of, instruction_of, wanted_of}
+use Rattle.decode.specs.Instruction.{first_of, third_of, immediate_of, instruction_of, wanted_of}
 use Rattle.decode.specs.Decode.{finish_of, on_total, on_row, on_head, known_of, decode_of}
 use Rattle.decode.specs.Cases.{Case, starred_cases, further_cases, requested_cases, under, starred_decode, starred_decode_all, further_decode, requested_decode}
 use Rattle.decode.specs.declared.instruction.Instruction.{Instruction}
-use Rattle.decode.specs.declared.instruction.Decoded.{Decoded}
 use Rattle.moves.specs.Pick.{digit, halves, lane_or_zero, in_lane_or_zero, pick_of}
 use Rattle.moves.specs.Origin.{bits_of, written, origin_by}
 use Rattle.moves.specs.Moved.{third_part, control_at, entry_of, moved}
@@ -34,9 +34,10 @@ use Rattle.moves.proofs.Laws.{moved_at, mappable_moves}
 use Rattle.moves.proofs.Placed.{placed_in}
 use Rattle.step.specs.Step.{moved_file, executed_file, file_after}
 use Rattle.step.specs.Cases.{Places, Moves, Run, runs, requested_runs, file, masks, Ran, AllRan}
+use Rattle.isa.specs.declared.refusal.Refusal.{Refusal}
 
 -- what an accepted step leaves in byte i of its destination
-module _ (code : List ℕ) (features : ℕ) (x : Instruction) (d : decode_of code features ≡ Decoded.Accepted x) (k memory f : List ℕ) (pk : length k ≡ mask_count)
+module _ (code : List ℕ) (features : ℕ) (x : Instruction) (d : decode_of code features ≡ Ok x) (k memory f : List ℕ) (pk : length k ≡ mask_count)
     (pf : length f ≡ file_size) (w : length memory ≡ wanted_of x.third) (r : x.destination.0 < registers) where
   after_is : file_after code k features memory f ≡ moved_file x k memory f
   unfolding file_after executed_file
@@ -54,15 +55,15 @@ module _ (code : List ℕ) (features : ℕ) (x : Instruction) (d : decode_of cod
 abbrev byte_after : Instruction → Run → ℕ → ℕ
 byte_after x r = entry_of (λ b. b) 0 x (bits_of (masks r.mask) x.mask) (third_part x.third r.memory file) file
 
-abbrev ran_test : Decoded → Run → Bool
-ran_test (Decoded.Refused why) r = false
-ran_test (Decoded.Accepted x) r =
+abbrev ran_test : Result Instruction Refusal → Run → Bool
+ran_test (Err why) r = false
+ran_test (Ok x) r =
     both (eqb (length r.memory) (wanted_of x.third))
     (both (eqb x.destination.0 1) (every register_bytes (λ i. eqb (byte_after x r i) (get_or r.after i 0))))
 
-ran_by : (r : Run) (d : Decoded) → decode_of r.bytes all_features ≡ d → ran_test d r ≡ true → Ran r
-ran_by r (Decoded.Refused why) e t = let z : ◌≡◌ {A = ℕ} 0 1 = cc in absurd (omega arith)
-ran_by r (Decoded.Accepted x) e t =
+ran_by : (r : Run) (d : Result Instruction Refusal) → decode_of r.bytes all_features ≡ d → ran_test d r ≡ true → Ran r
+ran_by r (Err why) e t = cc
+ran_by r (Ok x) e t =
     let a = both_true _ _ t in
     let b = both_true _ _ a.1 in
     let one : x.destination.0 ≡ 1 = eqb-true _ _ b.0 in
@@ -81,11 +82,11 @@ all_by [] t = tt
 all_by (r ∷ rs) t = let a = both_true (ran_test (decode_of r.bytes all_features) r) (runs_test rs) t in (ran_by r (decode_of r.bytes all_features) refl a.0, all_by rs a.1)
 
 runs_tested : runs_test runs ≡ true
-unfolding runs tabulate entry_of control_at origin_by pick_of halves lane_or_zero in_lane_or_zero digit bits_of written decode_of known_of on_head on_row on_total finish_of head_of prefix_size prefix_of fixed_bits rows find_in matches_row matches_w sib_size displacement_size check_of wrong_w wrong_width wrong_vvvv wrong_broadcast wrong_zeroing enough_of needed_of has_feature instruction_of encoding_of first_of third_of immediate_of width_of element_of digits_of half_of move_from control_of
+unfolding runs tabulate entry_of control_at origin_by pick_of halves lane_or_zero in_lane_or_zero digit bits_of written decode_of known_of on_head on_row on_total finish_of head_of prefix_size prefix_of fixed_bits rows find_in matches_row matches_w sib_size displacement_size check_of wrong_w wrong_width wrong_vvvv wrong_broadcast wrong_zeroing enough_of needed_of has_feature instruction_of first_of third_of immediate_of width_of
 runs_tested = refl
 
 requested_runs_test : runs_test requested_runs ≡ true
-unfolding requested_runs tabulate entry_of control_at origin_by pick_of halves lane_or_zero in_lane_or_zero digit bits_of written decode_of known_of on_head on_row on_total finish_of head_of prefix_size prefix_of fixed_bits rows find_in matches_row matches_w sib_size displacement_size check_of wrong_w wrong_width wrong_vvvv wrong_broadcast wrong_zeroing enough_of needed_of has_feature instruction_of encoding_of first_of third_of immediate_of width_of element_of digits_of half_of move_from control_of
+unfolding requested_runs tabulate entry_of control_at origin_by pick_of halves lane_or_zero in_lane_or_zero digit bits_of written decode_of known_of on_head on_row on_total finish_of head_of prefix_size prefix_of fixed_bits rows find_in matches_row matches_w sib_size displacement_size check_of wrong_w wrong_width wrong_vvvv wrong_broadcast wrong_zeroing enough_of needed_of has_feature instruction_of first_of third_of immediate_of width_of
 requested_runs_test = refl
 
 pub all_ran : AllRan runs
@@ -130,10 +131,10 @@ module _ (x : Instruction) (k f : List ℕ) (e : length f ≡ file_size) (m : ma
       ∙ ap read (moved_at (λ b. b) zero_entry x k [] identity p b ∙ placed_in zero_entry identity (x.destination.0 % registers) (place_of x k) i h)
 
 -- the test of a case that names places; masks do not count in it
-abbrev places_test : List ℕ → Decoded → List ℕ → Bool
-places_test k (Decoded.Refused why) ps = eqb (length ps) 0
-places_test k (Decoded.Accepted x) [] = true
-places_test k (Decoded.Accepted x) (p ∷ ps) =
+abbrev places_test : List ℕ → Result Instruction Refusal → List ℕ → Bool
+places_test k (Err why) ps = eqb (length ps) 0
+places_test k (Ok x) [] = true
+places_test k (Ok x) (p ∷ ps) =
     both (mappable x)
     (both (eqb (wanted_of x.third) 0) (both (ltb x.destination.0 registers) (every register_bytes (λ i. eqb (place_of x k i) (get_or (p ∷ ps) i zero_entry)))))
 
@@ -141,10 +142,10 @@ abbrev test : List ℕ → List Case → Bool
 test k [] = true
 test k (c ∷ cs) = both (places_test k c.gives c.places) (test k cs)
 
-places_by : (c : Case) (d : Decoded) (ps : List ℕ) → decode_of c.bytes c.features ≡ d → c.gives ≡ d → ((k : List ℕ) → places_test k d ps ≡ true) → Places c ps
+places_by : (c : Case) (d : Result Instruction Refusal) (ps : List ℕ) → decode_of c.bytes c.features ≡ d → c.gives ≡ d → ((k : List ℕ) → places_test k d ps ≡ true) → Places c ps
 places_by c d [] e g t = tt
-places_by c (Decoded.Refused why) (p ∷ ps) e g t = let z : length (p ∷ ps) ≡ 0 = eqb-true (length (p ∷ ps)) 0 (t []) in absurd (omega (arith, z))
-places_by c (Decoded.Accepted x) (p ∷ ps) e g t =
+places_by c (Err why) (p ∷ ps) e g t = let z : length (p ∷ ps) ≡ 0 = eqb-true (length (p ∷ ps)) 0 (t []) in absurd (omega (arith, z))
+places_by c (Ok x) (p ∷ ps) e g t =
     λ k f pk pf i h.
     let a = both_true _ _ (t k) in
     let b = both_true _ _ a.1 in
@@ -159,7 +160,7 @@ places_by c (Decoded.Accepted x) (p ∷ ps) e g t =
 all_moved : (cs : List Case) → map (λ (c : Case). decode_of c.bytes c.features) cs ≡ map (λ (c : Case). c.gives) cs → ((k : List ℕ) → test k cs ≡ true) → Moves cs
 all_moved [] e t = tt
 all_moved (c ∷ cs) e t = (
-  places_by c c.gives c.places (ap (λ (l : List Decoded). get_or l 0 c.gives) e) refl (λ k. (both_true (places_test k c.gives c.places) (test k cs) (t k)).0),
+  places_by c c.gives c.places (ap (λ (l : List (Result Instruction Refusal)). get_or l 0 c.gives) e) refl (λ k. (both_true (places_test k c.gives c.places) (test k cs) (t k)).0),
   all_moved cs (ap (drop 1) e) (λ k. (both_true (places_test k c.gives c.places) (test k cs) (t k)).1),
 )
 

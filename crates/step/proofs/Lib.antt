@@ -1,5 +1,4 @@
 -- Lemmas that the proofs of the step hand to `search` or cite.
-mod FourLanes
 mod Elements
 pub mod Rules
 pub mod Laws

@@ -1,16 +1,17 @@
 -- The bytes moved in the worked cases of docs/RULES.md. A case that names places: for every register file and all masks, each of the destination's 64
 -- bytes is the file's byte at the place that the case names, or zero. Then cases on one file: controls in registers and in memory, masks, a broadcast.
-use Rattle.std.specs.Prelude.{ℕ, ◌+◌, ◌*◌, ◌<◌, ◌≡◌, List, [], ◌∷◌, ◌++◌, eqb, length, get_or, replicate, if◌then◌else◌}
+use Rattle.std.specs.Prelude.{ℕ, ◌+◌, ◌*◌, ◌<◌, ◌≡◌, List, [], ◌∷◌, ◌++◌, eqb, length, get_or, replicate, if◌then◌else◌, Result, Ok, Err}
 use Rattle.seq.specs.Tabulate.{tabulate}
 use Rattle.isa.specs.Kinds.{file_size, mask_count, register_bytes, zero_entry}
 use Rattle.isa.specs.Features.{all_features}
 use Rattle.decode.specs.Cases.{Case, dword, qword}
-use Rattle.decode.specs.declared.instruction.Decoded.{Decoded}
 use Rattle.step.specs.Step.{file_after}
+use Rattle.isa.specs.declared.refusal.Refusal.{Refusal}
+use Rattle.decode.specs.declared.instruction.Instruction.{Instruction}
 
-abbrev pub destination_of : Decoded → ℕ
-destination_of (Decoded.Accepted x) = x.destination.0
-destination_of (Decoded.Refused why) = 0
+abbrev pub destination_of : Result Instruction Refusal → ℕ
+destination_of (Ok x) = x.destination.0
+destination_of (Err why) = 0
 
 abbrev pub Places : Case → List ℕ → Type 0
 Places c [] = Unit

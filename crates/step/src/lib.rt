@@ -1,42 +1,29 @@
 // One instruction on a register file.
 #![tactic(auto)]
 
-ghost use Rattle.std.specs.Prelude.{◌≡◌, [], ◌+◌, ◌*◌, ◌/◌, ◌%◌, ◌<◌, length, get_or};
+ghost use Rattle.std.specs.Prelude.{◌≡◌, length};
 ghost use Rattle.seq.specs.Tabulate.{tabulate};
-ghost use Rattle.isa.specs.Kinds.{registers, file_size};
-ghost use Rattle.decode.specs.Decode.{decode_of};
-ghost use Rattle.moves.specs.Moved.{third_part, repeated, immediate_byte, control_by, placed};
+ghost use Rattle.moves.specs.Moved.{first_register, third_part, repeated};
 ghost use Rattle.step.specs.Step.{executed_of, executed_file, step_of, file_after};
-ghost use Rattle.step.specs.Inner.{register_part, origin_at, origin_part, origin_element, parts_byte, byte_of, lanes_of, lane_byte, refused_of};
+ghost use Rattle.step.specs.Inner.{register_part, controls_part, origin_at, origin_part, origin_element, parts_byte};
 
-use decode::instruction::{Decoded, Immediate, Instruction, Third};
+use decode::instruction::{Instruction, Third};
 use isa::features::Features;
 use isa::kinds::{Mask, Offset, Reg, RegisterFile};
 use isa::operands::Control;
 use isa::refusal::Refusal;
 use moves::Origin;
 
-#[derive(Clone, Copy)]
-pub enum Stepped {
-    // The bytes of the instruction that was carried out.
-    Done(usize),
-    Refused(Refusal),
-}
-
 // A register's bytes, where they lie.
-fn register_part<'a>(register: Reg, file: &'a [u8]) -> &'a [u8]
-    requires { length file.now ≡ file_size }
+fn register_part<'a>(register: Reg, file: &'a [u8; RegisterFile::SIZE]) -> &'a [u8]
     ensures { result.now ≡ register_part register file.now }
 {
-    let at = Offset::of(register, 0);
-    let start = at.number() as usize;
-    let end = start + Reg::BYTES as usize;
-    &file[start..end]
+    let start = Offset::of(register, 0).number() as usize;
+    &file[start..start + Reg::BYTES as usize]
 }
 
 // The third operand, where it lies.
-fn third_part<'a>(third: Third, file: &'a [u8], memory: &'a [u8]) -> &'a [u8]
-    requires { length file.now ≡ file_size }
+fn third_part<'a>(third: Third, file: &'a [u8; RegisterFile::SIZE], memory: &'a [u8]) -> &'a [u8]
     ensures { result.now ≡ third_part third memory.now file.now }
 {
     match third {
@@ -51,191 +38,130 @@ fn repeated_byte(part: &[u8], i: u32) -> u8
 {
     let at = i as usize;
     if at < part.len() {
-        return part[at];
+        part[at]
+    } else if part.is_empty() {
+        0
+    } else {
+        part[at % part.len()]
     }
-    if part.len() == 0 {
-        return 0;
-    }
-    part[at % part.len()]
 }
 
-// The control of the element that starts at a byte.
-fn control(from: Control, immediate: Immediate, first: &[u8], third: &[u8], start: u32) -> u8
-    ensures { result ≡ control_by from (immediate_byte immediate) (repeated 0 first.now start) (repeated 0 third.now start) }
+// The operand that has the controls, where it is a source.
+fn controls_part<'a>(from: Control, first: &'a [u8], third: &'a [u8]) -> &'a [u8]
+    ensures { result.now ≡ controls_part from first.now third.now }
 {
     match from {
-        Control::Nowhere => 0,
-        Control::Immediate => moves::immediate_byte(immediate),
-        Control::First => repeated_byte(first, start),
-        Control::Third => repeated_byte(third, start),
+        Control::First => first,
+        Control::Third => third,
+        Control::Nowhere | Control::Immediate => &[],
     }
 }
 
-// Where element j comes from.
-fn origin_at(x: Instruction, bits: u64, first: &[u8], third: &[u8], j: u8) -> Origin
-    ensures { result ≡ origin_at x bits first.now third.now j }
-{
-    let from = x.control;
-    let immediate = x.immediate;
-    let moves = x.moves;
-    let element = x.element;
-    let width = x.width;
-    let start = moves::element_start(element, j as u16);
-    let c = control(from, immediate, first, third, start);
-    moves::origin_of(moves, element, width, x.zeroing, bits, c, j)
-}
-
-// An origin as a part, and as an element of it. Zero is a part with no bytes.
-fn origin_part<'a>(from: Origin, first: &'a [u8], third: &'a [u8], old: &'a [u8]) -> &'a [u8]
-    ensures { result.now ≡ origin_part from first.now third.now old.now }
-{
-    match from {
-        Origin::First(_) => first,
-        Origin::Third(_) => third,
-        Origin::Destination(_) => old,
-        Origin::Zero => &old[0..0],
-    }
-}
-
-fn origin_element(from: Origin) -> u16
-    ensures { result ≡ origin_element from }
-{
-    match from {
-        Origin::First(p) => p,
-        Origin::Third(p) => p,
-        Origin::Destination(p) => p,
-        Origin::Zero => 0,
-    }
-}
-
-// A lane below the width. The origin is looked for at an element's first byte alone.
-fn lane_bytes<'a>(
-    x: Instruction,
-    bits: u64,
+// What a step reads, where it lies: the controls, the first source, the third operand and the old destination.
+#[derive(Clone, Copy)]
+struct Sources<'a> {
+    controls: &'a [u8],
     first: &'a [u8],
     third: &'a [u8],
     old: &'a [u8],
-    l: u8,
-) -> [u8; 16]
-    requires { l < 4 }
-    ensures { result ≡ tabulate 16 (λ b. parts_byte x bits first.now third.now old.now (16 * l + b)) }
-{
-    let element = x.element;
-    let n = element.bytes();
-    let mut bytes = [0u8; 16];
-    let mut part = third;
-    let mut start: u32 = 0;
-    for b in 0..16 {
-        let i = 16 * l + b as u8;
-        let k = i % n;
-        if k == 0 {
-            let from = origin_at(x, bits, first, third, i / n);
-            part = origin_part(from, first, third, old);
-            start = moves::element_start(element, origin_element(from));
+}
+
+impl<'a> Sources<'a> {
+    fn of(x: Instruction, file: &'a [u8; RegisterFile::SIZE], memory: &'a [u8]) -> Sources<'a>
+        ensures controls { result.controls.now ≡ controls_part x.control (register_part (first_register x.first) file.now) (third_part x.third memory.now file.now) }
+        ensures first { result.first.now ≡ register_part (first_register x.first) file.now }
+        ensures third { result.third.now ≡ third_part x.third memory.now file.now }
+        ensures old { result.old.now ≡ register_part x.destination file.now }
+    {
+        let first = register_part(moves::first_register(x.first), file);
+        let third = third_part(x.third, file, memory);
+        Sources {
+            controls: controls_part(x.control, first, third),
+            first,
+            third,
+            old: register_part(x.destination, file),
         }
-        bytes[b] = repeated_byte(part, start + k as u32);
     }
-    bytes
-}
 
-// Lane l of the destination, which is zero from the width on.
-fn lane<'a>(
-    x: Instruction,
-    bits: u64,
-    first: &'a [u8],
-    third: &'a [u8],
-    old: &'a [u8],
-    l: u8,
-) -> [u8; 16]
-    requires { l < 4 }
-    ensures { result ≡ tabulate 16 (λ b. parts_byte x bits first.now third.now old.now (16 * l + b)) }
-{
-    let width = x.width;
-    if width.bytes() <= 16 * l {
-        return [0u8; 16];
+    // Where element j comes from.
+    fn origin(self, x: Instruction, bits: u64, j: u8) -> Origin
+        ensures { result ≡ origin_at x bits self.entry.controls.now j }
+    {
+        let start = moves::element_start(x.element, j as u16);
+        moves::origin_at(x, bits, repeated_byte(self.controls, start), j)
     }
-    lane_bytes(x, bits, first, third, old, l)
-}
 
-// The destination's 64 bytes, in four lanes.
-fn lanes<'a>(x: Instruction, bits: u64, file: &'a [u8], memory: &'a [u8]) -> [[u8; 16]; 4]
-    requires { length file.now ≡ file_size }
-    ensures { result ≡ lanes_of (byte_of x bits (third_part x.third memory.now file.now) file.now) }
-{
-    let source = x.first;
-    let operand = x.third;
-    let destination = x.destination;
-    let first = register_part(moves::first_register(source), file);
-    let third = third_part(operand, file, memory);
-    let old = register_part(destination, file);
-    let mut new = [[0u8; 16]; 4];
-    for l in 0..4u8 {
-        new[l as usize] = lane(x, bits, first, third, old, l);
-    }
-    new
-}
-
-// Puts four lanes into a register.
-fn put(file: &mut [u8], register: Reg, new: [[u8; 16]; 4])
-    requires { length file.old ≡ file_size }
-    ensures { file.new ≡ tabulate (length file.old) (placed 0 file.old (register.0 % registers) (lane_byte new)) }
-{
-    let at = Offset::of(register, 0);
-    let start = at.number() as usize;
-    for l in 0..4 {
-        for b in 0..16 {
-            file[start + 16 * l + b] = new[l][b];
+    // An origin as a part, and as an element of it. Zero is a part with no bytes.
+    fn part(self, from: Origin) -> (&'a [u8], u16)
+        ensures { (result.0.now ≡ origin_part from self.entry.first.now self.entry.third.now self.entry.old.now) × (result.1 ≡ origin_element from) }
+    {
+        match from {
+            Origin::First(p) => (self.first, p),
+            Origin::Third(p) => (self.third, p),
+            Origin::Destination(p) => (self.old, p),
+            Origin::Zero => (&[], 0),
         }
+    }
+
+    // The destination's bytes, in memory of fixed size and from one loop, since by elements it would be two, one in the other. The origin is looked for at an element's first byte alone, and from the width on they are zero.
+    // Kept beside bytemap's `entries`, since one function for both would take two closures, with clauses longer than this loop.
+    fn bytes(self, x: Instruction, bits: u64) -> [u8; 64]
+        ensures { result ≡ tabulate 64 (parts_byte x bits self.entry.controls.now self.entry.first.now self.entry.third.now self.entry.old.now) }
+    {
+        let n = x.element.bytes() as usize;
+        let width = x.width.bytes() as usize;
+        let mut new = [0u8; 64];
+        let mut part = self.third;
+        let mut start: u32 = 0;
+        for (i, byte) in new[..width].iter_mut().enumerate() {
+            let k = i % n;
+            if k == 0 {
+                let (at, p) = self.part(self.origin(x, bits, (i / n) as u8));
+                part = at;
+                start = moves::element_start(x.element, p);
+            }
+            *byte = repeated_byte(part, start + k as u32);
+        }
+        new
     }
 }
 
 // A decoded instruction, once the sizes are right: the memory, then the bytes.
-fn execute(x: Instruction, file: &mut [u8], masks: &[u64], memory: &[u8]) -> Stepped
-    requires { length file.old ≡ file_size }
+#[tactic(auto, unfolding(crate::specs::Step::executed_of, crate::specs::Step::executed_file))]
+fn execute(
+    x: Instruction,
+    file: &mut [u8; RegisterFile::SIZE],
+    masks: &[u64],
+    memory: &[u8],
+) -> Result<usize, Refusal>
     ensures { (result ≡ executed_of x (length memory.now)) × (file.new ≡ executed_file x masks.now memory.now file.old) }
 {
-    let third = x.third;
-    let mask = x.mask;
-    let destination = x.destination;
-    let wanted = decode::instruction::wanted(third) as usize;
-    if memory.len() != wanted {
-        return Stepped::Refused(Refusal::MemoryLength);
+    if memory.len() != decode::instruction::wanted(x.third) as usize {
+        return Err(Refusal::MemoryLength);
     }
-    let bits = moves::mask_bits(masks, mask);
-    let new = lanes(x, bits, file, memory);
-    put(file, destination, new);
-    Stepped::Done(x.length)
-}
-
-// The refusal of what is not accepted.
-fn refused(decoded: Decoded) -> Stepped
-    ensures { result ≡ refused_of decoded }
-{
-    match decoded {
-        Decoded::Refused(why) => Stepped::Refused(why),
-        Decoded::Accepted(x) => Stepped::Done(x.length),
-    }
+    let bits = moves::mask_bits(masks, x.mask);
+    let new = Sources::of(x, file, memory).bytes(x, bits);
+    moves::put(file, x.destination, &new);
+    Ok(x.length)
 }
 
 // Carries out the instruction at the front of the code, or refuses it and changes nothing.
+#[tactic(auto, unfolding(crate::specs::Step::step_of, crate::specs::Step::file_after))]
 pub fn step(
     code: &[u8],
     file: &mut [u8],
     masks: &[u64],
     features: Features,
     memory: &[u8],
-) -> Stepped
+) -> Result<usize, Refusal>
     ensures { (result ≡ step_of code.now (length file.old) (length masks.now) features.0 (length memory.now)) × (file.new ≡ file_after code.now masks.now features.0 memory.now file.old) }
 {
-    if file.len() != RegisterFile::SIZE {
-        return Stepped::Refused(Refusal::Argument);
-    }
     if masks.len() != Mask::COUNT as usize {
-        return Stepped::Refused(Refusal::Argument);
+        return Err(Refusal::Argument);
     }
-    let decoded = decode::decode(code, features);
-    let Decoded::Accepted(x) = decoded else {
-        return refused(decoded);
+    let Some(file) = file.as_mut_array() else {
+        return Err(Refusal::Argument);
     };
+    let x = decode::decode(code, features)?;
     execute(x, file, masks, memory)
 }

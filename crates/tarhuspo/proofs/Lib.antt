@@ -1,5 +1,4 @@
--- The rules that the proofs hand to `search`, and the laws of reasons and of answer 1.
-mod Compose
-mod Lists
+-- The lengths that fit, and the laws of reasons and of answer 1.
+pub mod Fits
 pub mod Reasons
 pub mod Arguments

@@ -20,19 +20,15 @@ use Rattle.decode.specs.Instruction.{wanted_of}
 use Rattle.decode.specs.Decode.{decode_of}
 use Rattle.decode.proofs.Reasons.{FirstWrong, first_wrong}
 use Rattle.decode.specs.declared.instruction.Third.{Third}
-use Rattle.decode.specs.declared.instruction.Decoded.{Decoded}
 use Rattle.address.specs.Displacement.{wrapped}
 use Rattle.address.specs.Operand.{gpr_count, operand_of}
 use Rattle.address.specs.Address.{located_of, address_of}
 use Rattle.address.specs.Address as Address
 use Rattle.address.specs.declared.operand.Operand.{Operand}
-use Rattle.address.specs.declared.Addressed.{Addressed}
 use Rattle.step.specs.Step.{sizes_right, executed_of, on_decoded, step_of}
-use Rattle.step.specs.declared.Stepped.{Stepped}
 use Rattle.moves.specs.Mappable.{mappable}
 use Rattle.run.specs.Run.{without_memory, run_split, stepped_run, refused_run, run_of}
 use Rattle.run.proofs.Splits.{refused_as_decoded}
-use Rattle.run.specs.declared.Answer.{Answer}
 use Rattle.run.specs.declared.Ran.{Ran}
 use Rattle.bytemap.specs.Build.{build_split, scanned_of, right_sizes, refused_build, build_of}
 use Rattle.bytemap.specs.declared.Built.{Built}
@@ -40,26 +36,28 @@ use Rattle.tarhuspo.specs.Decoded.{accepted_of, refused_of, decoded_of}
 use Rattle.tarhuspo.specs.Stepped.{stepped_of}
 use Rattle.tarhuspo.specs.Addressed.{addressed_of}
 use Rattle.tarhuspo.specs.Lists.{answer_status, answer_reason, ran_of, built_of}
+use Rattle.std.proofs.Common.{Option, Some, None, Result, Ok, Err}
+use Rattle.decode.specs.declared.instruction.Instruction.{Instruction}
 
 -- ---- a reason with 4, and with nothing else
 
-pub decoded_reasoned : (d : Decoded) → Reasoned (decoded_of d).status (decoded_of d).reason
+pub decoded_reasoned : (d : Result Instruction Refusal) → Reasoned (decoded_of d).status (decoded_of d).reason
 unfolding accepted_of refused_of
-decoded_reasoned (Decoded.Accepted x) = done_reasoned
-decoded_reasoned (Decoded.Refused why) = reasoned why
+decoded_reasoned (Ok x) = done_reasoned
+decoded_reasoned (Err why) = reasoned why
 
-pub stepped_reasoned : (s : Stepped) → Reasoned (stepped_of s).status (stepped_of s).reason
-stepped_reasoned (Stepped.Done n) = done_reasoned
-stepped_reasoned (Stepped.Refused why) = reasoned why
+pub stepped_reasoned : (s : Result ℕ Refusal) → Reasoned (stepped_of s).status (stepped_of s).reason
+stepped_reasoned (Ok n) = done_reasoned
+stepped_reasoned (Err why) = reasoned why
 
-pub addressed_reasoned : (a : Addressed) → Reasoned (addressed_of a).status (addressed_of a).reason
-addressed_reasoned (Addressed.At n) = done_reasoned
-addressed_reasoned Addressed.Nowhere = done_reasoned
-addressed_reasoned (Addressed.Refused why) = reasoned why
+pub addressed_reasoned : (a : Result (Option ℕ) Refusal) → Reasoned (addressed_of a).status (addressed_of a).reason
+addressed_reasoned (Ok (Some n)) = done_reasoned
+addressed_reasoned (Ok None) = done_reasoned
+addressed_reasoned (Err why) = reasoned why
 
-answer_reasoned : (a : Answer) → Reasoned (answer_status a) (answer_reason a)
-answer_reasoned Answer.Done = done_reasoned
-answer_reasoned (Answer.Refused why) = reasoned why
+answer_reasoned : (a : Result Unit Refusal) → Reasoned (answer_status a) (answer_reason a)
+answer_reasoned (Ok tt) = done_reasoned
+answer_reasoned (Err why) = reasoned why
 
 pub ran_reasoned : (r : Ran) → Reasoned (ran_of r).status (ran_of r).reason
 ran_reasoned r = answer_reasoned r.answer
@@ -75,17 +73,17 @@ pub record Names (code : List ℕ) (reason : ℕ) : Type 0 where
   pub first : FirstWrong code field
 
 -- a refusal with 4 names the field, if decoding gives it for those bytes
-names : (code : List ℕ) (features : ℕ) (why : Refusal) → ((f : Field) → why ≡ Reserved f → decode_of code features ≡ Decoded.Refused (Reserved f)) → status_of why ≡ 4 → Names code (reason_of why)
+names : (code : List ℕ) (features : ℕ) (why : Refusal) → ((f : Field) → why ≡ Reserved f → decode_of code features ≡ Err (Reserved f)) → status_of why ≡ 4 → Names code (reason_of why)
 names code features why decoded e = by (why_is why)
   where
     by : Why why → Names code (reason_of why)
     by (for_field f p) = record { field = f; number = ap reason_of p; first = first_wrong code features f (decoded f p) }
     by (for_other nay r) = absurd (nay e)
 
-names_decoded : (code : List ℕ) (features : ℕ) (d : Decoded) → decode_of code features ≡ d → (decoded_of d).status ≡ 4 → Names code (decoded_of d).reason
+names_decoded : (code : List ℕ) (features : ℕ) (d : Result Instruction Refusal) → decode_of code features ≡ d → (decoded_of d).status ≡ 4 → Names code (decoded_of d).reason
 unfolding accepted_of refused_of
-names_decoded code features (Decoded.Accepted x) p e = absurd (omega arith)
-names_decoded code features (Decoded.Refused why) p e = names code features why (λ f q. p ∙ ap Decoded.Refused q) e
+names_decoded code features (Ok x) p e = absurd (omega arith)
+names_decoded code features (Err why) p e = names code features why (λ f q. p ∙ ap Err q) e
 
 pub decode_names : (code : List ℕ) (features : ℕ) → (decoded_of (decode_of code features)).status ≡ 4 → Names code (decoded_of (decode_of code features)).reason
 decode_names code features e = names_decoded code features (decode_of code features) refl e
@@ -93,72 +91,65 @@ decode_names code features e = names_decoded code features (decode_of code featu
 -- ---- a step's refusal for a field is decoding's, and so is an address's
 
 -- an answer of some kind is refused for a field only if decoding is
-abbrev For : {A : Type 0} → (Refusal → A) → List ℕ → ℕ → Field → A → Type 0
-For refused code features f a = a ≡ refused (Reserved f) → decode_of code features ≡ Decoded.Refused (Reserved f)
+abbrev For : {A : Type 0} → List ℕ → ℕ → Field → Result A Refusal → Type 0
+For code features f a = a ≡ Err (Reserved f) → decode_of code features ≡ Err (Reserved f)
 
 -- a refusal with another number is for no field
-module _ (code : List ℕ) (features : ℕ) (f : Field) (why : Refusal) (nay : status_of why ≡ 4 → ⊥) where
-  not_stepped : For Stepped.Refused code features f (Stepped.Refused why)
-  not_stepped e = absurd (not_field f why nay cc)
+not_other : {A : Type 0} (code : List ℕ) (features : ℕ) (f : Field) (why : Refusal) → (status_of why ≡ 4 → ⊥) → For {A = A} code features f (Err why)
+not_other code features f why nay e = absurd (not_field f why nay cc)
 
-  not_addressed : For Addressed.Refused code features f (Addressed.Refused why)
-  not_addressed e = absurd (not_field f why nay cc)
-
-  not_answered : For Answer.Refused code features f (Answer.Refused why)
-  not_answered e = absurd (not_field f why nay cc)
-
-not_done : (code : List ℕ) (features : ℕ) (f : Field) (n : ℕ) → For Stepped.Refused code features f (Stepped.Done n)
+not_done : (code : List ℕ) (features : ℕ) (f : Field) (n : ℕ) → For code features f (Ok n)
 not_done code features f n e = let z : ◌≡◌ {A = ℕ} 0 1 = cc in absurd (omega arith)
 
-on_decoded_is : (code : List ℕ) (features memory : ℕ) (f : Field) (d : Decoded) → decode_of code features ≡ d → For Stepped.Refused code features f (on_decoded d memory)
+on_decoded_is : (code : List ℕ) (features memory : ℕ) (f : Field) (d : Result Instruction Refusal) → decode_of code features ≡ d → For code features f (on_decoded d memory)
 unfolding executed_of
-on_decoded_is code features memory f (Decoded.Refused why) p e = let z : why ≡ Reserved f = cc in p ∙ ap Decoded.Refused z
-on_decoded_is code features memory f (Decoded.Accepted x) p e =
-    of_either (For Stepped.Refused code features f) (eqb memory (wanted_of x.third)) _ _ (not_done code features f x.length) (not_stepped code features f MemoryLength (λ h. omega arith)) e
+on_decoded_is code features memory f (Err why) p e = let z : why ≡ Reserved f = cc in p ∙ ap Err z
+on_decoded_is code features memory f (Ok x) p e =
+    of_either (For code features f) (eqb memory (wanted_of x.third)) _ _ (not_done code features f x.length) (not_other code features f MemoryLength (λ h. omega arith)) e
 
-step_as_decoded : (code : List ℕ) (file masks features memory : ℕ) (f : Field) → For Stepped.Refused code features f (step_of code file masks features memory)
+step_as_decoded : (code : List ℕ) (file masks features memory : ℕ) (f : Field) → For code features f (step_of code file masks features memory)
 unfolding step_of
 step_as_decoded code file masks features memory f =
-    of_either (For Stepped.Refused code features f) (sizes_right file masks) _ _ (on_decoded_is code features memory f (decode_of code features) refl) (not_stepped code features f Argument (λ h. omega arith))
+    of_either (For code features f) (sizes_right file masks) _ _ (on_decoded_is code features memory f (decode_of code features) refl) (not_other code features f Argument (λ h. omega arith))
 
-names_stepped : (code : List ℕ) (file masks features memory : ℕ) (s : Stepped) → step_of code file masks features memory ≡ s → (stepped_of s).status ≡ 4 → Names code (stepped_of s).reason
-names_stepped code file masks features memory (Stepped.Done n) p e = absurd (omega arith)
-names_stepped code file masks features memory (Stepped.Refused why) p e =
-    names code features why (λ f q. step_as_decoded code file masks features memory f (p ∙ ap Stepped.Refused q)) e
+names_stepped : (code : List ℕ) (file masks features memory : ℕ) (s : Result ℕ Refusal) → step_of code file masks features memory ≡ s → (stepped_of s).status ≡ 4 → Names code (stepped_of s).reason
+names_stepped code file masks features memory (Ok n) p e = absurd (omega arith)
+names_stepped code file masks features memory (Err why) p e =
+    names code features why (λ f q. step_as_decoded code file masks features memory f (p ∙ ap Err q)) e
 
 pub step_names : (code : List ℕ) (file masks features memory : ℕ) → let s = stepped_of (step_of code file masks features memory) in s.status ≡ 4 → Names code s.reason
 step_names code file masks features memory e = names_stepped code file masks features memory (step_of code file masks features memory) refl e
 
-located_for : (code : List ℕ) (features : ℕ) (f : Field) (t : Third) (o : Operand) (registers : List ℕ) (next : ℕ) → For Addressed.Refused code features f (located_of t o registers next)
+located_for : (code : List ℕ) (features : ℕ) (f : Field) (t : Third) (o : Operand) (registers : List ℕ) (next : ℕ) → For code features f (located_of t o registers next)
 located_for code features f (Third.Register r) o registers next e = let z : ◌≡◌ {A = ℕ} 0 1 = cc in absurd (omega arith)
 located_for code features f (Third.Memory bytes) o registers next e = let z : ◌≡◌ {A = ℕ} 0 1 = cc in absurd (omega arith)
 
-decoded_for : (code : List ℕ) (features : ℕ) (registers : List ℕ) (at : ℕ) (f : Field) (d : Decoded) → decode_of code features ≡ d → For Addressed.Refused code features f (Address.on_decoded d code registers at)
-decoded_for code features registers at f (Decoded.Refused why) p e = let z : why ≡ Reserved f = cc in p ∙ ap Decoded.Refused z
-decoded_for code features registers at f (Decoded.Accepted x) p e = located_for code features f x.third (operand_of x code) registers (wrapped (at + x.length)) e
+decoded_for : (code : List ℕ) (features : ℕ) (registers : List ℕ) (at : ℕ) (f : Field) (d : Result Instruction Refusal) → decode_of code features ≡ d → For code features f (Address.on_decoded d code registers at)
+decoded_for code features registers at f (Err why) p e = let z : why ≡ Reserved f = cc in p ∙ ap Err z
+decoded_for code features registers at f (Ok x) p e = located_for code features f x.third (operand_of x code) registers (wrapped (at + x.length)) e
 
-address_as_decoded : (code : List ℕ) (features : ℕ) (registers : List ℕ) (at : ℕ) (f : Field) → For Addressed.Refused code features f (address_of code features registers at)
+address_as_decoded : (code : List ℕ) (features : ℕ) (registers : List ℕ) (at : ℕ) (f : Field) → For code features f (address_of code features registers at)
 unfolding address_of
 address_as_decoded code features registers at f =
-    of_either (For Addressed.Refused code features f) (eqb (length registers) gpr_count) _ _ (decoded_for code features registers at f (decode_of code features) refl) (not_addressed code features f Argument (λ h. omega arith))
+    of_either (For code features f) (eqb (length registers) gpr_count) _ _ (decoded_for code features registers at f (decode_of code features) refl) (not_other code features f Argument (λ h. omega arith))
 
-names_addressed : (code : List ℕ) (features : ℕ) (registers : List ℕ) (at : ℕ) (a : Addressed) → address_of code features registers at ≡ a → (addressed_of a).status ≡ 4 → Names code (addressed_of a).reason
-names_addressed code features registers at (Addressed.At n) p e = absurd (omega arith)
-names_addressed code features registers at Addressed.Nowhere p e = absurd (omega arith)
-names_addressed code features registers at (Addressed.Refused why) p e =
-    names code features why (λ f q. address_as_decoded code features registers at f (p ∙ ap Addressed.Refused q)) e
+names_addressed : (code : List ℕ) (features : ℕ) (registers : List ℕ) (at : ℕ) (a : Result (Option ℕ) Refusal) → address_of code features registers at ≡ a → (addressed_of a).status ≡ 4 → Names code (addressed_of a).reason
+names_addressed code features registers at (Ok (Some n)) p e = absurd (omega arith)
+names_addressed code features registers at (Ok None) p e = absurd (omega arith)
+names_addressed code features registers at (Err why) p e =
+    names code features why (λ f q. address_as_decoded code features registers at f (p ∙ ap Err q)) e
 
 pub address_names : (code : List ℕ) (features : ℕ) (registers : List ℕ) (at : ℕ) → let a = addressed_of (address_of code features registers at) in a.status ≡ 4 → Names code a.reason
 address_names code features registers at e = names_addressed code features registers at (address_of code features registers at) refl e
 
 -- ---- a list's is decoding's at the place
 
-abbrev ListFor : List ℕ → ℕ → Field → Answer → ℕ → Type 0
-ListFor code features f a place = For Answer.Refused (drop place code) features f a
+abbrev ListFor : List ℕ → ℕ → Field → Result Unit Refusal → ℕ → Type 0
+ListFor code features f a place = For (drop place code) features f a
 
-names_answered : (code : List ℕ) (features place : ℕ) (a : Answer) → ((f : Field) → ListFor code features f a place) → answer_status a ≡ 4 → Names (drop place code) (answer_reason a)
-names_answered code features place Answer.Done decoded e = absurd (omega arith)
-names_answered code features place (Answer.Refused why) decoded e = names (drop place code) features why (λ f q. decoded f (ap Answer.Refused q)) e
+names_answered : (code : List ℕ) (features place : ℕ) (a : Result Unit Refusal) → ((f : Field) → ListFor code features f a place) → answer_status a ≡ 4 → Names (drop place code) (answer_reason a)
+names_answered code features place (Ok tt) decoded e = absurd (omega arith)
+names_answered code features place (Err why) decoded e = names (drop place code) features why (λ f q. decoded f (ap Err q)) e
 
 abbrev RunFor : List ℕ → ℕ → Field → Ran → Type 0
 RunFor code features f r = ListFor code features f r.answer r.place
@@ -170,8 +161,8 @@ run_as_decoded code file masks features budget f =
     of_either (RunFor code features f) (both (sizes_right file masks) (features_known features)) (if leb (length code) code_limit then run else refused_run TooLong) (refused_run Argument)
     (of_either (RunFor code features f) (leb (length code) code_limit) run (refused_run TooLong)
     (refused_as_decoded without_memory MemoryLength features budget code (Reserved f) (λ e. not_field f MemoryLength (λ h. omega arith) (sym e)))
-    (not_answered code features f TooLong (λ h. omega arith)))
-    (not_answered code features f Argument (λ h. omega arith))
+    (not_other code features f TooLong (λ h. omega arith)))
+    (not_other code features f Argument (λ h. omega arith))
 
 pub run_names : (code : List ℕ) (file masks features budget : ℕ) → let r = ran_of (run_of code file masks features budget) in r.status ≡ 4 → Names (drop r.place code) r.reason
 run_names code file masks features budget e =
@@ -188,8 +179,8 @@ build_as_decoded code masks features m f =
     of_either (BuildFor code features f) (right_sizes masks m features) (if leb (length code) code_limit then built else refused_build TooLong) (refused_build Argument)
     (of_either (BuildFor code features f) (leb (length code) code_limit) built (refused_build TooLong)
     (refused_as_decoded mappable Unmappable features (length code) code (Reserved f) (λ e. not_field f Unmappable (λ h. omega arith) (sym e)))
-    (not_answered code features f TooLong (λ h. omega arith)))
-    (not_answered code features f Argument (λ h. omega arith))
+    (not_other code features f TooLong (λ h. omega arith)))
+    (not_other code features f Argument (λ h. omega arith))
 
 pub build_names : (code : List ℕ) (masks features m : ℕ) → let b = built_of (build_of code masks features m) in b.status ≡ 4 → Names (drop b.place code) b.reason
 build_names code masks features m e =

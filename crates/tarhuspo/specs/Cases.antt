@@ -2,7 +2,7 @@
 -- cases' decodings with their fields in the struct's order. All are proved by computing.
 use Rattle.std.specs.Prelude.{ℕ, ◌≡◌, refl, true, false, List, [], ◌∷◌, ◌++◌, map, replicate}
 use Rattle.isa.specs.Features.{has_feature}
-use Rattle.isa.specs.Operands.{width_of, element_of, digits_of, half_of, move_from, control_of}
+use Rattle.isa.specs.Operands.{width_of}
 use Rattle.isa.specs.Table.{rows, find_in, matches_row, matches_w}
 use Rattle.isa.specs.declared.refusal.Field.TheVariants.{FixedBits, W, Width, Vvvv, Broadcast, Zeroing}
 use Rattle.isa.specs.declared.refusal.Refusal.{Refusal}
@@ -10,12 +10,8 @@ use Rattle.isa.specs.declared.refusal.Refusal.TheVariants.{Argument, Truncated, 
 use Rattle.decode.specs.Prefix.{prefix_size, prefix_of, fixed_bits, head_of}
 use Rattle.decode.specs.Modrm.{sib_size, displacement_size}
 use Rattle.decode.specs.Reserved.{wrong_w, wrong_width, wrong_vvvv, wrong_broadcast, wrong_zeroing, check_of, needed_of, enough_of}
-use Rattle.decode.specs.Instruction.{encoding_of, first_of, third_of, immediate_of, instruction_of}
+use Rattle.decode.specs.Instruction.{first_of, third_of, immediate_of, instruction_of}
 use Rattle.decode.specs.Decode.{finish_of, on_total, on_row, on_head, known_of, decode_of}
-use Rattle.decode.specs.declared.instruction.Decoded.{Decoded}
-use Rattle.step.specs.declared.Stepped.{Stepped}
-use Rattle.address.specs.declared.Addressed.{Addressed}
-use Rattle.run.specs.declared.Answer.{Answer}
 use Rattle.listing.specs.declared.Listed.{Listed}
 use Rattle.tarhuspo.specs.Decoded.{accepted_of, refused_of, decoded_of}
 use Rattle.tarhuspo.specs.Stepped.{stepped_of}
@@ -27,6 +23,7 @@ use Rattle.tarhuspo.specs.declared.TarhuspoAddressed.{TarhuspoAddressed}
 use Rattle.tarhuspo.specs.declared.TarhuspoRan.{TarhuspoRan}
 use Rattle.tarhuspo.specs.declared.TarhuspoBuilt.{TarhuspoBuilt}
 use Rattle.tarhuspo.specs.declared.TarhuspoListed.{TarhuspoListed}
+use Rattle.std.specs.Prelude.{Option, Some, None, Result, Ok, Err}
 
 -- ---- structs as lists of numbers, in the order of their fields
 
@@ -66,32 +63,32 @@ numbers =
     ++ map (λ (n : ℕ). (n, 0)) (5 ∷ 6 ∷ 7 ∷ 8 ∷ 9 ∷ [])
 
 -- a list's answer: done, and each refusal
-abbrev pub answers : List Answer
-answers = Answer.Done ∷ map Answer.Refused refusals
+abbrev pub answers : List (Result Unit Refusal)
+answers = (Ok tt) ∷ map Err refusals
 
-pub answers_numbered : map (λ (a : Answer). (answer_status a, answer_reason a)) answers ≡ (0, 0) ∷ numbers
+pub answers_numbered : map (λ (a : Result Unit Refusal). (answer_status a, answer_reason a)) answers ≡ (0, 0) ∷ numbers
 answers_numbered = refl
 
-pub decodings_refused : map (λ (why : Refusal). decoded_fields (decoded_of (Decoded.Refused why))) refusals ≡ map (λ (n : ℕ × ℕ). n.0 ∷ replicate 13 0 ++ n.1 ∷ []) numbers
+pub decodings_refused : map (λ (why : Refusal). decoded_fields (decoded_of (Err why))) refusals ≡ map (λ (n : ℕ × ℕ). n.0 ∷ replicate 13 0 ++ n.1 ∷ []) numbers
 unfolding refused_of
 decodings_refused = refl
 
-pub steps_answered : map (λ (s : Stepped). stepped_fields (stepped_of s)) (Stepped.Done 7 ∷ map Stepped.Refused refusals) ≡ (0 ∷ 7 ∷ 0 ∷ []) ∷ map (λ (n : ℕ × ℕ). n.0 ∷ 0 ∷ n.1 ∷ []) numbers
+pub steps_answered : map (λ (s : Result ℕ Refusal). stepped_fields (stepped_of s)) (Ok 7 ∷ map Err refusals) ≡ (0 ∷ 7 ∷ 0 ∷ []) ∷ map (λ (n : ℕ × ℕ). n.0 ∷ 0 ∷ n.1 ∷ []) numbers
 steps_answered = refl
 
 -- request 4: an address, none, and each refusal
-pub addresses_answered : map (λ (a : Addressed). addressed_fields (addressed_of a)) (Addressed.At 4096 ∷ Addressed.Nowhere ∷ map Addressed.Refused refusals)
+pub addresses_answered : map (λ (a : Result (Option ℕ) Refusal). addressed_fields (addressed_of a)) (Ok (Some 4096) ∷ (Ok None) ∷ map Err refusals)
     ≡ (4096 ∷ 0 ∷ 0 ∷ 1 ∷ []) ∷ (0 ∷ 0 ∷ 0 ∷ 0 ∷ []) ∷ map (λ (n : ℕ × ℕ). 0 ∷ n.0 ∷ n.1 ∷ 0 ∷ []) numbers
 addresses_answered = refl
 
-pub runs_answered : map (λ (a : Answer). ran_fields (ran_of (record { steps = 2; place = 11; answer = a }))) answers ≡ map (λ (n : ℕ × ℕ). 2 ∷ 11 ∷ n.0 ∷ n.1 ∷ []) ((0, 0) ∷ numbers)
+pub runs_answered : map (λ (a : Result Unit Refusal). ran_fields (ran_of (record { steps = 2; place = 11; answer = a }))) answers ≡ map (λ (n : ℕ × ℕ). 2 ∷ 11 ∷ n.0 ∷ n.1 ∷ []) ((0, 0) ∷ numbers)
 runs_answered = refl
 
-pub builds_answered : map (λ (a : Answer). built_fields (built_of (record { place = 11; answer = a }))) answers ≡ map (λ (n : ℕ × ℕ). 11 ∷ n.0 ∷ n.1 ∷ []) ((0, 0) ∷ numbers)
+pub builds_answered : map (λ (a : Result Unit Refusal). built_fields (built_of (record { place = 11; answer = a }))) answers ≡ map (λ (n : ℕ × ℕ). 11 ∷ n.0 ∷ n.1 ∷ []) ((0, 0) ∷ numbers)
 builds_answered = refl
 
 -- request 5: lines that remain, and none; each answer
-pub listings_answered : map (λ (l : Listed). listed_fields (listed_of l)) (record { written = 61; next = 12; more = true; answer = Answer.Done } ∷ map (λ (a : Answer). record { written = 24; next = 7; more = false; answer = a }) answers)
+pub listings_answered : map (λ (l : Listed). listed_fields (listed_of l)) (record { written = 61; next = 12; more = true; answer = (Ok tt) } ∷ map (λ (a : Result Unit Refusal). record { written = 24; next = 7; more = false; answer = a }) answers)
     ≡ (61 ∷ 12 ∷ 0 ∷ 1 ∷ []) ∷ map (λ (n : ℕ × ℕ). 24 ∷ 7 ∷ n.0 ∷ 0 ∷ []) ((0, 0) ∷ numbers)
 listings_answered = refl
 
@@ -122,5 +119,5 @@ pub decodings_numbered : map (λ (code : List ℕ). decoded_fields (decoded_of (
     ∷ (0 ∷ 4 ∷ 0 ∷ 9 ∷ 256 ∷ 0 ∷ 1 ∷ 2 ∷ 3 ∷ 0 ∷ 0 ∷ 0 ∷ 0 ∷ 0 ∷ 0 ∷ [])
     ∷ (0 ∷ 6 ∷ 0 ∷ 10 ∷ 512 ∷ 1 ∷ 1 ∷ 2 ∷ 3 ∷ 1 ∷ 0 ∷ 0 ∷ 0 ∷ 0 ∷ 0 ∷ [])
     ∷ []
-unfolding accepted_of decode_of known_of on_head on_row on_total finish_of head_of prefix_size prefix_of fixed_bits rows find_in matches_row matches_w sib_size displacement_size check_of wrong_w wrong_width wrong_vvvv wrong_broadcast wrong_zeroing enough_of needed_of has_feature instruction_of encoding_of first_of third_of immediate_of width_of element_of digits_of half_of move_from control_of
+unfolding accepted_of decode_of known_of on_head on_row on_total finish_of head_of prefix_size prefix_of fixed_bits rows find_in matches_row matches_w sib_size displacement_size check_of wrong_w wrong_width wrong_vvvv wrong_broadcast wrong_zeroing enough_of needed_of has_feature instruction_of first_of third_of immediate_of width_of
 decodings_numbered = refl

@@ -7,33 +7,31 @@ use Rattle.isa.specs.declared.operands.Encoding.{Encoding}
 use Rattle.isa.specs.declared.operands.Encoding.TheVariants.{Vex, Evex}
 use Rattle.isa.specs.declared.refusal.Refusal.{Refusal}
 use Rattle.decode.specs.Instruction.{wanted_of}
-use Rattle.decode.specs.declared.instruction.First.{First}
 use Rattle.decode.specs.declared.instruction.Third.{Third}
-use Rattle.decode.specs.declared.instruction.Immediate.{Immediate}
 use Rattle.decode.specs.declared.instruction.Instruction.{Instruction}
-use Rattle.decode.specs.declared.instruction.Decoded.{Decoded}
-use Rattle.decode.specs.declared.instruction.Decoded.TheVariants.{Accepted, Refused}
 use Rattle.tarhuspo.specs.declared.TarhuspoDecoded.{TarhuspoDecoded}
+use Rattle.std.specs.Prelude.{Option, Some, None, Result, Ok, Err}
+use Rattle.isa.specs.declared.kinds.Reg.{Reg}
 
 abbrev pub encoding_number : Encoding → ℕ
 encoding_number Vex = 0
 encoding_number Evex = 1
 
-abbrev pub first_number : First → ℕ
-first_number (First.Register r) = r.0
-first_number First.Absent = 0
+abbrev pub first_number : Option Reg → ℕ
+first_number (Some r) = r.0
+first_number None = 0
 
 abbrev pub third_number : Third → ℕ
 third_number (Third.Register r) = r.0
 third_number (Third.Memory bytes) = 0
 
-abbrev pub has_immediate_of : Immediate → ℕ
-has_immediate_of (Immediate.Byte b) = 1
-has_immediate_of Immediate.Absent = 0
+abbrev pub has_immediate_of : Option ℕ → ℕ
+has_immediate_of (Some b) = 1
+has_immediate_of None = 0
 
-abbrev pub immediate_number : Immediate → ℕ
-immediate_number (Immediate.Byte b) = b
-immediate_number Immediate.Absent = 0
+abbrev pub immediate_number : Option ℕ → ℕ
+immediate_number (Some b) = b
+immediate_number None = 0
 
 abbrev pub flag : Bool → ℕ
 flag set = if set then 1 else 0
@@ -78,6 +76,6 @@ refused_of why =
       reason = reason_of why;
     }
 
-abbrev pub decoded_of : Decoded → TarhuspoDecoded
-decoded_of (Accepted i) = accepted_of i i.length
-decoded_of (Refused why) = refused_of why
+abbrev pub decoded_of : Result Instruction Refusal → TarhuspoDecoded
+decoded_of (Ok i) = accepted_of i i.length
+decoded_of (Err why) = refused_of why

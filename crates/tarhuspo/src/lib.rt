@@ -1,4 +1,5 @@
 // The C interface, as Rattle calls it: include/tarhuspo.h says the same in C, and crates/tarhuspo_c exports these functions.
+// Flags beside values, numbers for kinds and the conversions to them are here because C has them so.
 #![tactic(auto)]
 
 ghost use Rattle.std.specs.Prelude.{◌≡◌, length};
@@ -12,15 +13,12 @@ ghost use Rattle.tarhuspo.specs.Stepped.{stepped_of};
 ghost use Rattle.tarhuspo.specs.Addressed.{an_address, no_address, addressed_of};
 ghost use Rattle.listing.specs.Listing.{listing_of, text_after};
 ghost use Rattle.tarhuspo.specs.Lists.{answer_status, answer_reason, ran_of, built_of, listed_of};
-ghost use Rattle.tarhuspo.specs.Decoded.{encoding_number, first_number, third_number, has_immediate_of, immediate_number, flag, accepted_of, refused_of, decoded_of};
+ghost use Rattle.tarhuspo.specs.Decoded.{first_number, third_number, has_immediate_of, immediate_number, flag, accepted_of, refused_of, decoded_of};
 
-use address::Addressed;
-use decode::instruction::{Decoded, First, Immediate, Instruction, Third};
+use decode::instruction::{Instruction, Third};
 use isa::features::Features;
-use isa::operands::Encoding;
+use isa::kinds::Reg;
 use isa::refusal::Refusal;
-use run::Answer;
-use step::Stepped;
 
 // tarhuspo_decoded. All fields but status and reason are 0 where status is not 0. The reason is the wrong field's number
 // where status is 4, and 0 otherwise, here and below.
@@ -44,22 +42,10 @@ pub struct TarhuspoDecoded {
     pub reason: u32,
 }
 
-fn evex_of(encoding: Encoding) -> u32
-    ensures { result ≡ encoding_number encoding }
-{
-    match encoding {
-        Encoding::Vex => 0,
-        Encoding::Evex => 1,
-    }
-}
-
-fn first_of(first: First) -> u32
+fn first_of(first: Option<Reg>) -> u32
     ensures { result ≡ first_number first }
 {
-    match first {
-        First::Register(register) => register.number() as u32,
-        First::Absent => 0,
-    }
+    first.map_or(0, |register| register.number() as u32)
 }
 
 fn third_of(third: Third) -> u32
@@ -71,60 +57,48 @@ fn third_of(third: Third) -> u32
     }
 }
 
-fn has_immediate(immediate: Immediate) -> u32
+fn has_immediate(immediate: Option<u8>) -> u32
     ensures { result ≡ has_immediate_of immediate }
 {
-    match immediate {
-        Immediate::Byte(_) => 1,
-        Immediate::Absent => 0,
-    }
+    immediate.is_some() as u32
 }
 
-fn immediate_of(immediate: Immediate) -> u32
+fn immediate_of(immediate: Option<u8>) -> u32
     ensures { result ≡ immediate_number immediate }
 {
-    match immediate {
-        Immediate::Byte(byte) => byte as u32,
-        Immediate::Absent => 0,
-    }
+    immediate.unwrap_or(0) as u32
 }
 
 fn flag_of(set: bool) -> u32
     ensures { result ≡ flag set }
 {
-    if set { 1 } else { 0 }
+    u32::from(set)
 }
 
+#[tactic(auto, unfolding(crate::specs::Decoded::accepted_of))]
 fn accepted(i: Instruction, length: u32) -> TarhuspoDecoded
     ensures { result ≡ accepted_of i length }
 {
-    let mnemonic = i.mnemonic;
-    let width = i.width;
-    let encoding = i.encoding;
-    let destination = i.destination;
-    let first = i.first;
-    let third = i.third;
-    let mask = i.mask;
-    let immediate = i.immediate;
     TarhuspoDecoded {
         status: 0,
-        length: length,
-        memory: decode::instruction::wanted(third) as u32,
-        mnemonic: mnemonic.number() as u32,
-        bits: width.bytes() as u32 * 8,
-        evex: evex_of(encoding),
-        destination: destination.number() as u32,
-        first: first_of(first),
-        third: third_of(third),
-        mask: mask.number() as u32,
+        length,
+        memory: decode::instruction::wanted(i.third) as u32,
+        mnemonic: i.mnemonic.number() as u32,
+        bits: i.width.bytes() as u32 * 8,
+        evex: i.encoding as u32,
+        destination: i.destination.number() as u32,
+        first: first_of(i.first),
+        third: third_of(i.third),
+        mask: i.mask.number() as u32,
         zeroing: flag_of(i.zeroing),
         broadcast: flag_of(i.broadcast),
-        has_immediate: has_immediate(immediate),
-        immediate: immediate_of(immediate),
+        has_immediate: has_immediate(i.immediate),
+        immediate: immediate_of(i.immediate),
         reason: 0,
     }
 }
 
+#[tactic(auto, unfolding(crate::specs::Decoded::refused_of))]
 fn refused(why: Refusal) -> TarhuspoDecoded
     ensures { result ≡ refused_of why }
 {
@@ -147,16 +121,13 @@ fn refused(why: Refusal) -> TarhuspoDecoded
     }
 }
 
+#[tactic(auto, using(crate::proofs::Fits::fits_length))]
 pub fn tarhuspo_decode(code: &[u8], features: u32) -> TarhuspoDecoded
     ensures { result ≡ decoded_of (decode_of code.now features) }
 {
-    let decoded = decode::decode(code, Features(features));
-    match decoded {
-        Decoded::Accepted(i) => {
-            let length = i.length as u32;
-            accepted(i, length)
-        }
-        Decoded::Refused(why) => refused(why),
+    match decode::decode(code, Features(features)) {
+        Ok(i) => accepted(i, i.length as u32),
+        Err(why) => refused(why),
     }
 }
 
@@ -169,6 +140,7 @@ pub struct TarhuspoStepped {
     pub reason: u32,
 }
 
+#[tactic(auto, using(crate::proofs::Fits::fits_step))]
 pub fn tarhuspo_step(
     code: &[u8],
     file: &mut [u8],
@@ -179,12 +151,12 @@ pub fn tarhuspo_step(
     ensures { (result ≡ stepped_of (step_of code.now (length file.old) (length masks.now) features (length memory.now))) × (file.new ≡ file_after code.now masks.now features memory.now file.old) }
 {
     match step::step(code, file, masks, Features(features), memory) {
-        Stepped::Done(length) => TarhuspoStepped {
+        Ok(length) => TarhuspoStepped {
             status: 0,
             length: length as u32,
             reason: 0,
         },
-        Stepped::Refused(why) => TarhuspoStepped {
+        Err(why) => TarhuspoStepped {
             status: why.status(),
             length: 0,
             reason: why.reason(),
@@ -192,21 +164,13 @@ pub fn tarhuspo_step(
     }
 }
 
-fn status_of(answer: Answer) -> u32
-    ensures { result ≡ answer_status answer }
+// The answer's number, and the reason's.
+fn numbers_of(answer: Result<(), Refusal>) -> (u32, u32)
+    ensures { (result.0 ≡ answer_status answer) × (result.1 ≡ answer_reason answer) }
 {
     match answer {
-        Answer::Done => 0,
-        Answer::Refused(why) => why.status(),
-    }
-}
-
-fn reason_of(answer: Answer) -> u32
-    ensures { result ≡ answer_reason answer }
-{
-    match answer {
-        Answer::Done => 0,
-        Answer::Refused(why) => why.reason(),
+        Ok(()) => (0, 0),
+        Err(why) => (why.status(), why.reason()),
     }
 }
 
@@ -230,12 +194,12 @@ pub fn tarhuspo_run(
     ensures { (result ≡ ran_of (run_of code.now (length file.old) (length masks.now) features budget)) × (file.new ≡ file_after_run code.now masks.now features budget file.old) }
 {
     let ran = run::run(code, file, masks, Features(features), budget);
-    let answer = ran.answer;
+    let (status, reason) = numbers_of(ran.answer);
     TarhuspoRan {
         steps: ran.steps,
         place: ran.place as u64,
-        status: status_of(answer),
-        reason: reason_of(answer),
+        status,
+        reason,
     }
 }
 
@@ -257,24 +221,24 @@ pub fn tarhuspo_bytemap_build(
     ensures { (result ≡ built_of (build_of code.now (length masks.now) features (length map.old))) × (map.new ≡ map_built code.now masks.now features map.old) }
 {
     let built = bytemap::build(code, masks, Features(features), map);
-    let answer = built.answer;
+    let (status, reason) = numbers_of(built.answer);
     TarhuspoBuilt {
         place: built.place as u64,
-        status: status_of(answer),
-        reason: reason_of(answer),
+        status,
+        reason,
     }
 }
 
 pub fn tarhuspo_bytemap_apply(map: &[u16], file: &mut [u8]) -> u32
     ensures { (result ≡ answer_status (apply_of map.now (length file.old))) × (file.new ≡ file_applied map.now file.old) }
 {
-    status_of(bytemap::apply(map, file))
+    numbers_of(bytemap::apply(map, file)).0
 }
 
 pub fn tarhuspo_bytemap_compose(first: &[u16], second: &[u16], out: &mut [u16]) -> u32
     ensures { (result ≡ answer_status (compose_of first.now second.now (length out.old))) × (out.new ≡ map_composed first.now second.now out.old) }
 {
-    status_of(bytemap::compose(first, second, out))
+    numbers_of(bytemap::compose(first, second, out)).0
 }
 
 // tarhuspo_listed. All fields but status are 0 where status is not 0.
@@ -291,11 +255,10 @@ pub fn tarhuspo_listing(code: &[u8], place: usize, text: &mut [u8]) -> TarhuspoL
     ensures { (result ≡ listed_of (listing_of code.now place (length text.old))) × (text.new ≡ text_after code.now place text.old) }
 {
     let listed = listing::listing(code, place, text);
-    let answer = listed.answer;
     TarhuspoListed {
         written: listed.written as u64,
         next: listed.next as u64,
-        status: status_of(answer),
+        status: numbers_of(listed.answer).0,
         more: flag_of(listed.more),
     }
 }
@@ -341,8 +304,8 @@ pub fn tarhuspo_address(
     ensures { result ≡ addressed_of (address_of code.now features registers.now instruction_address) }
 {
     match address::address(code, Features(features), registers, instruction_address) {
-        Addressed::At(place) => an_address(place),
-        Addressed::Nowhere => no_address(0, 0),
-        Addressed::Refused(why) => no_address(why.status(), why.reason()),
+        Ok(Some(place)) => an_address(place),
+        Ok(None) => no_address(0, 0),
+        Err(why) => no_address(why.status(), why.reason()),
     }
 }

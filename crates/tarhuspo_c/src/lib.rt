@@ -1,5 +1,5 @@
 // The exports of the static library: include/tarhuspo.h says the same in C. Each is the function of that name in the crate
-// tarhuspo, and repeats its contract.
+// tarhuspo, and repeats its contract. They are alike and yet apart, since C can call no generic function.
 #![tactic(auto)]
 
 ghost use Rattle.std.specs.Prelude.{◌≡◌, length};

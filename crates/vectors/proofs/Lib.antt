@@ -1,4 +1,4 @@
 -- Lemmas that the proofs of functions cite.
-mod Folding
-mod LittleEndian
 mod Calling
+mod Digests
+mod Filling

@@ -1,5 +1,5 @@
 -- The line that an input of each entry point gives. docs/VECTORS.md has the fields of its record r.
-use Rattle.std.specs.Prelude.{ℕ, ◌+◌, ◌-◌, ◌*◌, List, [], ◌∷◌, ◌++◌, ltb, length, take, drop, set, if◌then◌else◌}
+use Rattle.std.specs.Prelude.{ℕ, ◌+◌, ◌-◌, ◌*◌, List, [], ◌∷◌, ◌++◌, ltb, Option, Some, None, length, take, drop, set, if◌then◌else◌}
 use Rattle.decode.specs.Decode.{decode_of}
 use Rattle.step.specs.Step.{step_of, file_after}
 use Rattle.run.specs.Run.{run_of, file_after_run}
@@ -16,19 +16,18 @@ use Rattle.vectors.specs.Number.{byte_at, number_at}
 use Rattle.vectors.specs.Pools.{bytes_from, masks_from, entries_from, old_from, file_room, map_room, text_room, masks_room, memory_room}
 use Rattle.vectors.specs.Digest.{digest_of}
 use Rattle.vectors.specs.declared.digest.Digest.{Digest}
-use Rattle.vectors.specs.declared.calls.Entry.{Entry}
 use Rattle.vectors.specs.declared.calls.Line.{Line}
-use Rattle.vectors.specs.declared.calls.Line.TheVariants.{Malformed, Status, TwoMore, ThreeMore, Undigested}
+use Rattle.vectors.specs.declared.calls.Line.TheVariants.{Status, TwoMore, ThreeMore, Undigested}
 
 -- ---- decode: the digest is of the result's fields, in order
 
 abbrev pub fields_of : TarhuspoDecoded → List ℕ
 fields_of d = d.status ∷ d.length ∷ d.memory ∷ d.mnemonic ∷ d.bits ∷ d.evex ∷ d.destination ∷ d.first ∷ d.third ∷ d.mask ∷ d.zeroing ∷ d.broadcast ∷ d.has_immediate ∷ d.immediate ∷ d.reason ∷ []
 
-abbrev pub decode_line : List ℕ → List ℕ → Line
+abbrev pub decode_line : List ℕ → List ℕ → Option Line
 decode_line r code =
     let d = decoded_of (decode_of code (number_at 4 r 0)) in
-    TwoMore d.status d.length d.reason (digest_of (fields_of d))
+    Some (TwoMore d.status d.length d.reason (digest_of (fields_of d)))
 
 -- ---- the others: what may be written lies in a larger buffer, and the digest is of that
 
@@ -45,12 +44,12 @@ abbrev pub outer : ℕ → List ℕ → List ℕ → List ℕ
 outer n room l = take guard room ++ (l ++ drop n (drop guard room))
 
 -- the line of a call that gives `result` of n elements and leaves `after` of them
-unfoldable pub called : {X : Type 0} → (X → Digest → Line) → (List ℕ → X) → (List ℕ → List ℕ) → ℕ → List ℕ → Line
-called line result after n room = line (result (inner n room)) (digest_of (outer n room (after (inner n room))))
+unfoldable pub called : {X : Type 0} → (X → Digest → Line) → (List ℕ → X) → (List ℕ → List ℕ) → ℕ → List ℕ → Option Line
+called line result after n room = Some (line (result (inner n room)) (digest_of (outer n room (after (inner n room)))))
 
 -- no line where a record asks for n of what there is room for fewer of
-abbrev pub at_most : ℕ → ℕ → Line → Line
-at_most most n line = if ltb most n then Malformed else line
+abbrev pub at_most : {X : Type 0} → ℕ → ℕ → Option X → Option X
+at_most most n line = if ltb most n then None else line
 
 module _ (r pools : List ℕ) where
   -- masks: start and count at place i
@@ -61,7 +60,7 @@ module _ (r pools : List ℕ) where
   abbrev pub map_at : ℕ → List ℕ
   map_at i = set (entries_from pools (number_at 2 r i) map_room) (number_at 2 r (i + 4)) (number_at 2 r (i + 6))
 
-  abbrev pub apply_line : Line
+  abbrev pub apply_line : Option Line
   apply_line =
       let entries = number_at 2 r 2 in
       let map = take entries (map_at 0) in
@@ -73,7 +72,7 @@ module _ (r pools : List ℕ) where
       (file_applied map)
       size (bytes_from pools (number_at 2 r 8) file_room)))
 
-  abbrev pub compose_line : Line
+  abbrev pub compose_line : Option Line
   compose_line =
       let firstSize = number_at 2 r 2 in
       let first = take firstSize (map_at 0) in
@@ -89,7 +88,7 @@ module _ (r pools : List ℕ) where
       size (old_from (number_at 2 r 16) map_room))))
 
 module _ (r code pools : List ℕ) where
-  abbrev pub step_line : Line
+  abbrev pub step_line : Option Line
   step_line =
       let features = number_at 4 r 0 in
       let size = number_at 2 r 6 in
@@ -102,7 +101,7 @@ module _ (r code pools : List ℕ) where
       (file_after code masks features memory)
       size (bytes_from pools (number_at 2 r 4) file_room)))
 
-  abbrev pub run_line : Line
+  abbrev pub run_line : Option Line
   run_line =
       let features = number_at 4 r 0 in
       let budget = number_at 8 r 4 in
@@ -115,7 +114,7 @@ module _ (r code pools : List ℕ) where
       (file_after_run code masks features budget)
       size (bytes_from pools (number_at 2 r 12) file_room)))
 
-  abbrev pub build_line : Line
+  abbrev pub build_line : Option Line
   build_line =
       let features = number_at 4 r 0 in
       let size = number_at 2 r 6 in
@@ -127,7 +126,7 @@ module _ (r code pools : List ℕ) where
       (map_built code masks features)
       size (old_from (number_at 2 r 4) map_room)))
 
-  abbrev pub listing_line : Line
+  abbrev pub listing_line : Option Line
   listing_line =
       let size = number_at 2 r 2 in
       let place = number_at 2 r 4 in
@@ -138,17 +137,7 @@ module _ (r code pools : List ℕ) where
       size (bytes_from pools (number_at 2 r 0) text_room))
 
   -- request 4: the general registers are a part of the pool of masks; nothing is written, so there is no digest
-  abbrev pub address_line : Line
+  abbrev pub address_line : Option Line
   address_line =
       let a = addressed_of (address_of code (number_at 4 r 0) (masks_at r pools 12) (number_at 8 r 4)) in
-      at_most masks_room (byte_at r 13) (Undigested a.status a.reason a.has_address a.address)
-
-abbrev pub line_of : Entry → List ℕ → List ℕ → List ℕ → Line
-line_of Entry.Decode r code pools = decode_line r code
-line_of Entry.Step r code pools = step_line r code pools
-line_of Entry.Run r code pools = run_line r code pools
-line_of Entry.Build r code pools = build_line r code pools
-line_of Entry.Apply r code pools = apply_line r pools
-line_of Entry.Compose r code pools = compose_line r pools
-line_of Entry.Listing r code pools = listing_line r code pools
-line_of Entry.Address r code pools = address_line r code pools
+      at_most masks_room (byte_at r 13) (Some (Undigested a.status a.reason a.has_address a.address))

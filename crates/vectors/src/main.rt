@@ -2,16 +2,14 @@
 // and of what is written.
 #![tactic(auto)]
 
-ghost use Rattle.std.specs.Prelude.{◌≤◌, IfOk, length};
-
 mod calls;
 mod digest;
 mod number;
 mod pools;
 
-use calls::{Entry, Line, RECORD_ROOM};
-use digest::Digest;
-use number::u16_at;
+use calls::{Input, Line};
+use input::read_full;
+use pools::{Pools, SIZE};
 use std::io::Read;
 use std::rt::Files;
 use std::{fs, io};
@@ -19,57 +17,11 @@ use std::{fs, io};
 // Inputs of each entry point.
 const INPUTS: u64 = 20000;
 
+// Bytes of the longest record.
+const RECORD_ROOM: usize = 20;
+
+// Bytes of the longest code.
 const CODE_ROOM: usize = 16640;
-
-fn print(rt: &impl Print, text: &str) -> io::Result<()> {
-    rt.print(text)
-}
-
-fn print_number(rt: &impl Print, number: u64) -> io::Result<()> {
-    print!(rt; "{number:x} ")
-}
-
-fn print_digest(rt: &impl Print, d: Digest) -> io::Result<()> {
-    println!(rt; "{:08x}{:08x}", d.first, d.second)
-}
-
-// How much there was of what has this name.
-fn print_count(rt: &impl Print, name: &str, count: u64) -> io::Result<()> {
-    println!(rt; "{name} {count}")
-}
-
-// Answers whether there is a line.
-fn print_line(rt: &impl Print, line: Line) -> io::Result<bool> {
-    match line {
-        Line::Malformed => {
-            return Ok(false);
-        }
-        Line::Status(status, digest) => {
-            print_number(rt, status as u64)?;
-            print_digest(rt, digest)?;
-        }
-        Line::TwoMore(status, first, second, digest) => {
-            print_number(rt, status as u64)?;
-            print_number(rt, first)?;
-            print_number(rt, second)?;
-            print_digest(rt, digest)?;
-        }
-        Line::ThreeMore(status, first, second, third, digest) => {
-            print_number(rt, status as u64)?;
-            print_number(rt, first)?;
-            print_number(rt, second)?;
-            print_number(rt, third)?;
-            print_digest(rt, digest)?;
-        }
-        Line::Undigested(status, first, second, third) => {
-            print_number(rt, status as u64)?;
-            print_number(rt, first)?;
-            print_number(rt, second)?;
-            println!(rt; "{third:x}")?;
-        }
-    }
-    Ok(true)
-}
 
 // Where the code of an input stands.
 #[derive(Clone, Copy)]
@@ -81,177 +33,144 @@ enum Code {
     Absent,
 }
 
-fn record_size(entry: Entry) -> usize {
-    match entry {
-        Entry::Decode => 4,
-        Entry::Step => 13,
-        Entry::Run => 18,
-        Entry::Build => 10,
-        Entry::Apply => 12,
-        Entry::Compose => 20,
-        Entry::Listing => 6,
-        Entry::Address => 14,
-    }
-}
-
-fn code_of(entry: Entry) -> Code {
-    match entry {
-        Entry::Decode => Code::Beside,
-        Entry::Step => Code::Beside,
-        Entry::Run => Code::Listed,
-        Entry::Build => Code::Listed,
-        Entry::Apply => Code::Absent,
-        Entry::Compose => Code::Absent,
-        Entry::Listing => Code::Listed,
-        Entry::Address => Code::Beside,
-    }
-}
-
-// The line of an input whose code is the first bytes of a buffer.
-fn line_of(
-    entry: Entry,
-    record: &[u8; RECORD_ROOM],
-    room: &[u8; CODE_ROOM],
-    length: usize,
-    pools: &[u8; pools::SIZE],
-) -> Line {
-    let all: &[u8] = room;
-    if length > all.len() {
-        return Line::Malformed;
-    }
-    calls::call(entry, record, &all[0..length], pools)
-}
-
-// Reads until the buffer is full or the input ends. Answers how many bytes there were.
-fn read_full(from: &mut impl Read, buffer: &mut [u8]) -> io::Result<usize>
-    ensures { IfOk result (λ n. n ≤ length buffer.new) }
-{
-    let mut done: usize = 0;
-    while done < buffer.len() {
-        let got = from.read(&mut buffer[done..])?;
-        if got == 0 {
-            break;
-        }
-        done += got;
-    }
-    Ok(done)
-}
-
-fn read_record(from: &mut impl Read, size: usize, record: &mut [u8]) -> io::Result<bool> {
-    if size > record.len() {
-        return Ok(false);
-    }
-    let got = read_full(from, &mut record[0..size])?;
-    Ok(got == size)
-}
-
-fn code_length(from: &mut impl Read) -> io::Result<usize> {
-    let mut length = [0u8; 2];
-    let got = read_full(from, &mut length)?;
-    if got < 2 {
-        return Ok(usize::MAX);
-    }
-    Ok(u16_at(&length, 0) as usize)
-}
-
-// Answers the length of the code, or more than there is room for if the code is not there in full.
-fn read_code(from: &mut impl Read, code: &mut [u8]) -> io::Result<usize> {
-    let length = code_length(from)?;
-    if length > code.len() {
-        return Ok(usize::MAX);
-    }
-    let got = read_full(from, &mut code[0..length])?;
-    if got < length {
-        return Ok(usize::MAX);
-    }
-    Ok(length)
-}
-
-// Reads an input and calls its entry point. Answers whether the input was there and well formed.
-fn next(
-    rt: &impl Print,
-    entry: Entry,
-    inputs: &mut impl Read,
-    lists: &mut impl Read,
-    pools: &[u8; pools::SIZE],
-) -> io::Result<bool> {
-    let mut record = [0u8; RECORD_ROOM];
-    if !read_record(inputs, record_size(entry), &mut record)? {
-        return Ok(false);
-    }
-    let mut code = [0u8; CODE_ROOM];
-    let length = match code_of(entry) {
-        Code::Beside => read_code(inputs, &mut code)?,
-        Code::Listed => read_code(lists, &mut code)?,
-        Code::Absent => 0,
+// The next bytes, so many, if they are there in full and there is room for them.
+fn read_part<'a>(
+    from: &mut impl Read,
+    size: usize,
+    room: &'a mut [u8],
+) -> io::Result<Option<&'a [u8]>> {
+    let Some(part) = room.get_mut(..size) else {
+        return Ok(None);
     };
-    print_line(rt, line_of(entry, &record, &code, length, pools))
+    let got = read_full(from, part)?;
+    Ok((got == size).then_some(&*part))
+}
+
+// The code behind its length.
+fn read_code<'a>(from: &mut impl Read, room: &'a mut [u8]) -> io::Result<Option<&'a [u8]>> {
+    let mut length = [0u8; 2];
+    if read_full(from, &mut length)? < length.len() {
+        return Ok(None);
+    }
+    read_part(from, u16::from_le_bytes(length) as usize, room)
+}
+
+// What the inputs of an entry point are read from, with the bytes of a record and where the code stands.
+#[derive(Drop)]
+struct Source<R> {
+    records: R,
+    lists: R,
+    record_size: usize,
+    code: Code,
+}
+
+impl<R: Read> Source<R> {
+    fn code<'a>(&mut self, room: &'a mut [u8]) -> io::Result<Option<&'a [u8]>> {
+        match self.code {
+            Code::Beside => read_code(&mut self.records, room),
+            Code::Listed => read_code(&mut self.lists, room),
+            Code::Absent => Ok(Some(&[])),
+        }
+    }
+
+    // Reads the next input and calls its entry point. There is no line if the input is not there in full.
+    fn next<F: Fn(Input) -> Option<Line>>(
+        &mut self,
+        pools: &Pools,
+        call: &F,
+    ) -> io::Result<Option<Line>>
+        requires { F.IsAlwaysCallable call.now }
+    {
+        let mut record_room = [0u8; RECORD_ROOM];
+        let Some(record) = read_part(&mut self.records, self.record_size, &mut record_room)? else {
+            return Ok(None);
+        };
+        let mut code_room = [0u8; CODE_ROOM];
+        let Some(code) = self.code(&mut code_room)? else {
+            return Ok(None);
+        };
+        Ok(call(Input {
+            record,
+            code,
+            pools,
+        }))
+    }
 }
 
 // Says so if the file goes on.
 fn close_at_end(rt: &impl Print, mut file: impl Read + Drop) -> io::Result<()> {
     let mut more = [0u8; 1];
     if read_full(&mut file, &mut more)? > 0 {
-        print(rt, "the data goes on\n")?;
+        println!(rt; "the data goes on")?;
     }
     Ok(())
 }
 
-// Every input of an entry point. Answers how many there were.
-fn each(
+// Writes the line of every input. Answers how many there were.
+fn each<F: Fn(Input) -> Option<Line>>(
     rt: &impl Print,
-    entry: Entry,
-    inputs: &mut impl Read,
-    lists: &mut impl Read,
-    pools: &[u8; pools::SIZE],
-) -> io::Result<u64> {
-    let mut done: u64 = 0;
-    while done < INPUTS {
-        if !next(rt, entry, inputs, lists, pools)? {
-            break;
-        }
-        done += 1;
+    pools: &Pools,
+    source: &mut Source<impl Read>,
+    call: &F,
+) -> io::Result<u64>
+    requires { F.IsAlwaysCallable call.now }
+{
+    for done in 0..INPUTS {
+        let Some(line) = source.next(pools, call)? else {
+            return Ok(done);
+        };
+        println!(rt; "{line}")?;
     }
-    Ok(done)
+    Ok(INPUTS)
 }
 
-fn close_lists(rt: &impl Print, entry: Entry, lists: impl Read + Drop) -> io::Result<()> {
-    match code_of(entry) {
+// The inputs of an entry point, which are in the file of its name, and how many there were. `pools` and `call` only pass through to the
+// one place that makes an input of the one and calls the other.
+fn section<F: Fn(Input) -> Option<Line> + Drop>(
+    rt: &(impl Files + Print),
+    pools: &Pools,
+    name: &str,
+    record_size: usize,
+    code: Code,
+    call: F,
+) -> io::Result<()>
+    requires { F.IsAlwaysCallable call }
+{
+    let records = fs::File::open(rt, name)?;
+    let lists = fs::File::open(rt, "lists")?;
+    let mut source = Source {
+        records,
+        lists,
+        record_size,
+        code,
+    };
+    let count = each(rt, pools, &mut source, &call)?;
+    println!(rt; "{name} {count}")?;
+    let Source { records, lists, .. } = source;
+    close_at_end(rt, records)?;
+    match code {
         Code::Listed => close_at_end(rt, lists),
         _ => Ok(()),
     }
 }
 
-fn section(
-    rt: &(impl Files + Print),
-    entry: Entry,
-    name: &str,
-    pools: &[u8; pools::SIZE],
-) -> io::Result<()> {
-    let mut inputs = fs::File::open(rt, name)?;
-    let mut lists = fs::File::open(rt, "lists")?;
-    let count = each(rt, entry, &mut inputs, &mut lists, pools)?;
-    print_count(rt, name, count)?;
-    close_at_end(rt, inputs)?;
-    close_lists(rt, entry, lists)
-}
-
-fn read_pools(rt: &(impl Files + Print), pools: &mut [u8]) -> io::Result<()> {
+fn read_pools(rt: &(impl Files + Print)) -> io::Result<Pools> {
+    let mut pools = Pools { all: [0; SIZE] };
     let mut file = fs::File::open(rt, "pools")?;
-    let got = read_full(&mut file, pools)?;
-    print_count(rt, "pools", got as u64)?;
-    close_at_end(rt, file)
+    let got = read_full(&mut file, &mut pools.all)?;
+    println!(rt; "pools {got}")?;
+    close_at_end(rt, file)?;
+    Ok(pools)
 }
 
 fn main(rt: HostRuntime) -> io::Result<()> {
-    let mut pools = [0u8; pools::SIZE];
-    read_pools(&rt, &mut pools)?;
-    section(&rt, Entry::Decode, "decode", &pools)?;
-    section(&rt, Entry::Step, "step", &pools)?;
-    section(&rt, Entry::Run, "run", &pools)?;
-    section(&rt, Entry::Build, "build", &pools)?;
-    section(&rt, Entry::Apply, "apply", &pools)?;
-    section(&rt, Entry::Compose, "compose", &pools)?;
-    section(&rt, Entry::Listing, "listing", &pools)?;
-    section(&rt, Entry::Address, "address", &pools)
+    let pools = read_pools(&rt)?;
+    section(&rt, &pools, "decode", 4, Code::Beside, calls::decode)?;
+    section(&rt, &pools, "step", 13, Code::Beside, calls::step)?;
+    section(&rt, &pools, "run", 18, Code::Listed, calls::run)?;
+    section(&rt, &pools, "build", 10, Code::Listed, calls::build)?;
+    section(&rt, &pools, "apply", 12, Code::Absent, calls::apply)?;
+    section(&rt, &pools, "compose", 20, Code::Absent, calls::compose)?;
+    section(&rt, &pools, "listing", 6, Code::Listed, calls::listing)?;
+    section(&rt, &pools, "address", 14, Code::Beside, calls::address)
 }

@@ -1,32 +1,18 @@
-// Little-endian numbers. A byte past the end reads 0.
-ghost use Rattle.std.specs.Prelude.{◌≡◌};
+// Little-endian numbers in a record or a pool.
+ghost use Rattle.std.specs.Prelude.{◌≡◌, ◌≤◌, ◌<◌, ◌^◌};
 ghost use Rattle.vectors.specs.Number.{number_at};
 
 use seq::byte_at;
 
-pub fn u16_at(bytes: &[u8], at: usize) -> u16
-    ensures { result ≡ number_at 2 bytes.now at }
+// The number that N bytes make from a place on. A byte past the end reads 0, which from_le_bytes would need an array for.
+pub(crate) fn number_at<const N: usize>(bytes: &[u8], at: usize) -> usize
+    requires { N ≤ 8 }
+    ensures value { result ≡ number_at N bytes.now at }
+    ensures small { result < 256 ^ N }
 {
-    if at >= bytes.len() {
-        return 0;
+    let mut number: usize = 0;
+    for i in (0..N).rev() {
+        number = 256 * number + byte_at(bytes, at.saturating_add(i)) as usize;
     }
-    byte_at(bytes, at) as u16 + 256 * byte_at(bytes, at + 1) as u16
-}
-
-pub fn u32_at(bytes: &[u8], at: usize) -> u32
-    ensures { result ≡ number_at 4 bytes.now at }
-{
-    if at >= bytes.len() {
-        return 0;
-    }
-    u16_at(bytes, at) as u32 + 65536 * u16_at(bytes, at + 2) as u32
-}
-
-pub fn u64_at(bytes: &[u8], at: usize) -> u64
-    ensures { result ≡ number_at 8 bytes.now at }
-{
-    if at >= bytes.len() {
-        return 0;
-    }
-    u32_at(bytes, at) as u64 + 4294967296 * u32_at(bytes, at + 4) as u64
+    number
 }

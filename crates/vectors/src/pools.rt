@@ -1,9 +1,10 @@
 // Buffers filled from the pools of bytes, opmasks and map entries, which stand one behind the other. A buffer gets the
 // elements of its pool from a start on, and where the pool ends, from its front.
-ghost use Rattle.std.specs.Prelude.{◌≡◌, length};
-ghost use Rattle.vectors.specs.Pools.{bytes_from, masks_from, entries_from, old_from, file_room, map_room, text_room, masks_room, memory_room};
+ghost use Rattle.std.specs.Prelude.{◌≡◌};
+ghost use Rattle.vectors.specs.Pools.{bytes_from, masks_from, entries_from, old_from, map_room, masks_room};
 
-use crate::number::{u16_at, u64_at};
+use crate::number::number_at;
+use std::array;
 
 const BYTES: usize = 65536;
 
@@ -24,67 +25,44 @@ pub const TEXT_ROOM: usize = 28160;
 
 pub const MASKS_ROOM: usize = 24;
 
-const MEMORY_ROOM: usize = 256;
+pub const MEMORY_ROOM: usize = 256;
 
-fn fill_bytes(pools: &[u8; SIZE], start: u16, bytes: &mut [u8])
-    ensures { bytes.new ≡ bytes_from pools.now start (length bytes.old) }
-{
-    for i in 0..bytes.len() {
-        bytes[i] = pools[(start as usize + i % BYTES) % BYTES];
+// The three pools.
+#[derive(Drop)]
+pub struct Pools {
+    pub all: [u8; SIZE],
+}
+
+impl Pools {
+    pub(crate) fn bytes<const N: usize>(&self, start: usize) -> [u8; N]
+        ensures { result ≡ bytes_from self.now.all start N }
+    {
+        array::from_fn(|i| self.all[start.wrapping_add(i) % BYTES])
     }
-}
 
-pub fn file(pools: &[u8; SIZE], start: u16) -> [u8; ROOM]
-    ensures { result ≡ bytes_from pools.now start file_room }
-{
-    let mut file = [0u8; ROOM];
-    fill_bytes(pools, start, &mut file);
-    file
-}
-
-pub fn memory(pools: &[u8; SIZE], start: u16) -> [u8; MEMORY_ROOM]
-    ensures { result ≡ bytes_from pools.now start memory_room }
-{
-    let mut memory = [0u8; MEMORY_ROOM];
-    fill_bytes(pools, start, &mut memory);
-    memory
-}
-
-pub fn text(pools: &[u8; SIZE], start: u16) -> [u8; TEXT_ROOM]
-    ensures { result ≡ bytes_from pools.now start text_room }
-{
-    let mut text = [0u8; TEXT_ROOM];
-    fill_bytes(pools, start, &mut text);
-    text
-}
-
-pub fn masks(pools: &[u8; SIZE], start: u8) -> [u64; MASKS_ROOM]
-    ensures { result ≡ masks_from pools.now start masks_room }
-{
-    let mut masks = [0u64; MASKS_ROOM];
-    for i in 0..MASKS_ROOM {
-        masks[i] = u64_at(pools, MASKS_AT + 8 * ((start as usize + i) % MASKS));
+    // Like `entries` and yet apart, since each is one expression, of another type, place and size.
+    pub(crate) fn masks(&self, start: usize) -> [u64; MASKS_ROOM]
+        ensures { result ≡ masks_from self.now.all start masks_room }
+    {
+        array::from_fn(|i| {
+            let mask = start.wrapping_add(i) % MASKS;
+            number_at::<8>(&self.all, MASKS_AT + 8 * mask) as u64
+        })
     }
-    masks
-}
 
-pub fn entries(pools: &[u8; SIZE], start: u16) -> [u16; ROOM]
-    ensures { result ≡ entries_from pools.now start map_room }
-{
-    let mut entries = [0u16; ROOM];
-    for i in 0..ROOM {
-        entries[i] = u16_at(pools, ENTRIES_AT + 2 * ((start as usize + i) % ENTRIES));
+    pub(crate) fn entries(&self, start: usize) -> [u16; ROOM]
+        ensures { result ≡ entries_from self.now.all start map_room }
+    {
+        array::from_fn(|i| {
+            let entry = start.wrapping_add(i) % ENTRIES;
+            number_at::<2>(&self.all, ENTRIES_AT + 2 * entry) as u16
+        })
     }
-    entries
 }
 
 // What a map holds before it is written: numbers that differ from place to place, most of them over 2,048.
-pub fn old_entries(start: u16) -> [u16; ROOM]
+pub(crate) fn old_entries(start: usize) -> [u16; ROOM]
     ensures { result ≡ old_from start map_room }
 {
-    let mut entries = [0u16; ROOM];
-    for i in 0..ROOM {
-        entries[i] = ((start as usize + 40503 * i) % ENTRIES) as u16;
-    }
-    entries
+    array::from_fn(|i| (start.wrapping_add(40503 * i) % ENTRIES) as u16)
 }

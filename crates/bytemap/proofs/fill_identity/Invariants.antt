@@ -1,10 +1,9 @@
-use Prim.Native.Nat.{◌-◌}
+use Rattle.std.proofs.Common.{◌≡◌, ℕ, ◌<◌, length, get_or}
 use Rattle.isa.specs.Kinds.{map_entries}
-use Rattle.seq.proofs.Storing.{Storing}
 use Rattle.bytemap.proofs.fill_identity.Given as goal
 
 abbrev pub invariant-loop-i : goal.invariant-loop-i
-invariant-loop-i l = Storing l.initial.map (λ p. p) map_entries l.map l.i
-
-abbrev pub decreases-loop-i : goal.decreases-loop-i
-decreases-loop-i l = map_entries - l.i
+invariant-loop-i l = record {
+  size : length l.map ≡ map_entries;
+  below : (k : ℕ) → k < l.i → get_or l.map k 0 ≡ k;
+}

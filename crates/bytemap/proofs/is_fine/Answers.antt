@@ -1,13 +1,10 @@
-use Prim.Native.Nat.{◌-◌}
-use borrow.Author.Rules.{rules}
-use Rattle.bytemap.proofs.Fine.{bad_entry, fine_entry, all_fine}
+use Rattle.std.proofs.Common.{◌∙◌, true, rules, tests}
+use Rattle.std.proofs.lemmas.Iterator.{YieldsList-from_slice}
+use Rattle.std.proofs.lemmas.Iterator.Consumers.{fold_from_yields_List}
+use Rattle.bytemap.proofs.Fine.{passes, fine_fold}
 use Rattle.bytemap.proofs.is_fine.Goals as goal
 
-pub returns-then-map-i-gt-ZERO : goal.returns-then-map-i-gt-ZERO
-returns-then-map-i-gt-ZERO c = search (rules, bad_entry)
-
-pub loop-i-preserved : goal.loop-i-preserved
-loop-i-preserved c = (search rules, search fine_entry)
-
 pub returns : goal.returns
-returns c = search all_fine
+returns c =
+    let m = c.args.map.now in
+    fold_from_yields_List _ passes true c.fold.result c.fold.ensures.ran (YieldsList-from_slice m cc) (λ a x b q k. search (rules, tests)) ∙ fine_fold m

@@ -1,10 +1,6 @@
-use Prim.Native.Nat.{◌-◌}
-use lib.ListN.{length}
+use Rattle.decode.specs.Steps.{steps_left}
 use Rattle.bytemap.proofs.Scanning.{Scanning}
 use Rattle.bytemap.proofs.scan.Given as goal
 
-abbrev pub invariant-loop-place : goal.invariant-loop-place
-invariant-loop-place l = Scanning l.code l.features.0 l.place
-
-abbrev pub decreases-loop-place : goal.decreases-loop-place
-decreases-loop-place l = length l.code - l.place
+abbrev pub invariant-loop-step : goal.invariant-loop-step
+invariant-loop-step l = Scanning l.code l.fn.features.0 l.place (steps_left l.step-iterator)

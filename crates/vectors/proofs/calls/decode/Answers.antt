@@ -1,8 +1,10 @@
-use borrow.Author.Rules.{rules}
+use Rattle.std.proofs.Common.{◌≡◌}
+use Rattle.vectors.specs.Digest.{digest_of}
+use Rattle.vectors.specs.Calls.{fields_of}
+use Rattle.vectors.proofs.Digests.{digest_is}
 use Rattle.vectors.proofs.calls.decode.Goals as goal
 
-pub overflow_cast-result-2 : goal.overflow_cast-result-2
-overflow_cast-result-2 c = search (rules, c.tarhuspo_decode-d.type_inv.1.1.1.1.1.1.1.1.1.1.1.1.1.1)
-
 pub returns : goal.returns
-returns c = rw (c.of_numbers.ensures, c.tarhuspo_decode-d.ensures, c.u32_at.ensures)
+returns c =
+    let digest : c.of.result ≡ digest_of (fields_of c.tarhuspo_decode-d.result) = digest_is _ _ c.of.ensures in
+    rw (digest, c.tarhuspo_decode-d.ensures, c.number_at.ensures.value)

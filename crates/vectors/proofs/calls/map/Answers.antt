@@ -4,8 +4,8 @@ use lib.Seq.{set_out}
 use Rattle.vectors.proofs.calls.map.Goals as goal
 
 pub returns-then-place-lt-ROOM : goal.returns-then-place-lt-ROOM
-returns-then-place-lt-ROOM c = rw (c.entries-map.ensures, c.u16_at.ensures, c.u16_at-place.ensures, c.u16_at-then-place-lt-ROOM.ensures)
+returns-then-place-lt-ROOM c = rw (c.entries-map.ensures, c.number_at.ensures.value, c.number_at-place.ensures.value, c.number_at-then-place-lt-ROOM.ensures.value)
 
 pub returns-else-place-lt-ROOM : goal.returns-else-place-lt-ROOM
 returns-else-place-lt-ROOM c =
-    rw (← c.u16_at-place.ensures, ← c.u16_at.ensures, ← c.entries-map.ensures) (sym (set_out _ _ _ (search rules)))
+    rw (← c.number_at-place.ensures.value, ← c.number_at.ensures.value, ← c.entries-map.ensures) (sym (set_out _ _ _ (search rules)))

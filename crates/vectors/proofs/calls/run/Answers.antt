@@ -1,21 +1,11 @@
-use mathlib.Core.Path.{sym}
-use borrow.Author.Rules.{rules}
-use borrow.Author.Tests.{lt-ltb, le-ltb}
-use lib.Seq.{length-take-le}
-use Rattle.vectors.proofs.Calling.{calls}
+use Rattle.vectors.proofs.Calling.{taken, calls}
+use Rattle.vectors.proofs.Digests.{digest_is}
 use Rattle.vectors.proofs.calls.run.Goals as goal
-
-pub returns-then-size-gt-MOST : goal.returns-then-size-gt-MOST
-returns-then-size-gt-MOST c = rw (← c.u16_at-size.ensures, lt-ltb 2544 _ c.if-size-gt-MOST.true)
-
-pub returns-then-count-gt-MASKS_ROOM : goal.returns-then-count-gt-MASKS_ROOM
-returns-then-count-gt-MASKS_ROOM c = rw (← c.u16_at-size.ensures, le-ltb 2544 _ c.if-size-gt-MOST.false, ← c.byte_at-count.ensures, lt-ltb 24 _ c.if-count-gt-MASKS_ROOM.true)
-
-pub slice_bounds-tarhuspo_run-end : goal.slice_bounds-tarhuspo_run-end
-slice_bounds-tarhuspo_run-end c = sym (length-take-le _ _ (search rules))
 
 pub returns : goal.returns
 returns c =
-    rw (← c.u16_at-size.ensures, le-ltb 2544 _ c.if-size-gt-MOST.false, ← c.byte_at-count.ensures, le-ltb 24 _ c.if-count-gt-MASKS_ROOM.false)
-    (rw (← c.u16_at.ensures, ← c.file-file.ensures, ← c.byte_at.ensures, ← c.masks-masks.ensures, ← c.u32_at.ensures, ← c.u64_at.ensures)
-    (calls _ _ _ _ _ c.tarhuspo_run-ran.ensures.0 c.tarhuspo_run-ran.ensures.1 c.file_digest.ensures))
+    let size = taken _ _ _ c.in_ok-size.ensures in
+    let count = taken _ _ _ c.in_ok-count.ensures in
+    rw (← c.number_at.ensures.value, size.0, ← size.1, ← c.byte_at.ensures, count.0, ← count.1)
+    (rw (← c.number_at-2.ensures.value, ← c.bytes-file.ensures, ← c.byte_at-2.ensures, ← c.masks-masks.ensures, ← c.number_at-3.ensures.value, ← c.number_at-4.ensures.value)
+    (calls _ _ _ _ _ c.tarhuspo_run-ran.ensures.0 c.tarhuspo_run-ran.ensures.1 (digest_is _ _ c.of.ensures)))

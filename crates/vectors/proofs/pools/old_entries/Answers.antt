@@ -1,15 +1,6 @@
-use Prim.Native.Nat.{ℕ, ◌-◌}
-use mathlib.Core.Path.{refl}
-use native.Mathlib.Omega.{arith}
-use lib.ListN.{length-replicate}
-use Rattle.seq.proofs.Storing.{starts, stores, stored}
+use Rattle.std.proofs.Common.{rules}
+use Rattle.vectors.proofs.Filling.{filled, wraps_at_65536}
 use Rattle.vectors.proofs.pools.old_entries.Goals as goal
 
-pub loop-i-init : goal.loop-i-init
-loop-i-init c = starts _ _ _ (length-replicate {A = ℕ} 2560 0)
-
-pub loop-i-preserved : goal.loop-i-preserved
-loop-i-preserved c = stores _ _ _ (length-replicate {A = ℕ} 2560 0) _ _ _ c.loop-i.invariant (omega arith) refl
-
 pub returns : goal.returns
-returns c = stored _ _ _ (length-replicate {A = ℕ} 2560 0) _ _ c.loop-i.invariant (omega arith)
+returns c = filled _ _ _ (λ i y q k. search (rules, wraps_at_65536)) _ _ c.from_fn.ensures.items

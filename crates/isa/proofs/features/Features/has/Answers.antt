@@ -3,10 +3,6 @@ use Rattle.isa.specs.Features.{has_feature}
 use Rattle.isa.proofs.Bits.{no_bit}
 use Rattle.isa.proofs.features.Features.has.Goals as goal
 
-pub returns-then-bit-lt32 : goal.returns-then-bit-lt32
-unfolding has_feature
-returns-then-bit-lt32 c = search rules
-
 pub returns-else-bit-lt32 : goal.returns-else-bit-lt32
 unfolding has_feature
 returns-else-bit-lt32 c = search (rules, no_bit 32)

@@ -1,5 +1,0 @@
--- The measure is the number: its tenth is less where it is not below 10.
-use Rattle.listing.proofs.+put_number.Given as goal
-
-abbrev pub decreases-put_number : goal.decreases-put_number
-decreases-put_number l = l.number

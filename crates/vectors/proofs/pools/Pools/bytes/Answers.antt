@@ -1,0 +1,6 @@
+use Rattle.std.proofs.Common.{rules}
+use Rattle.vectors.proofs.Filling.{filled, wraps_at_65536}
+use Rattle.vectors.proofs.pools.Pools.bytes.Goals as goal
+
+pub returns : goal.returns
+returns g c = filled _ _ _ (λ i y q k. search (rules, wraps_at_65536)) _ _ c.from_fn.ensures.items
