@@ -27,7 +27,7 @@ no_memory false a b bytes p q e = q e
 memory_mode : (row : Row) (f : Prefix) (m bytes : ℕ) → third_of row f m ≡ Third.Memory bytes → m / 64 ≡ 3 → ⊥
 unfolding third_of
 memory_mode row f m bytes e h =
-    no_memory (under_vex f.encoding) _ _ bytes
+    no_memory (eqb f.encoding under_vex) _ _ bytes
     (λ g. let z : ◌≡◌ {A = ℕ} 0 1 = cc in omega arith) (λ g. let z : ◌≡◌ {A = ℕ} 0 1 = cc in omega arith) (rw (eq-eqb (m / 64) 3 h) at e)
 
 a_sib : (m : ℕ) → (m / 64 ≡ 3 → ⊥) → m % 8 ≡ 4 → 1 ≤ sib_size m

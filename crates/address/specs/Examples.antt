@@ -3,7 +3,7 @@
 use Rattle.std.specs.Prelude.{◌≡◌, ℕ, ◌+◌, ◌-◌, ◌*◌, ◌/◌, ◌%◌, ◌^◌, List, [], ◌∷◌, map, replicate, ◌==◌, nat_eq, refl, if◌then◌else◌}
 use Rattle.seq.specs.Tabulate.{tabulate}
 use Rattle.isa.specs.Features.{all_features, has_feature}
-use Rattle.isa.specs.Operands.{width_of}
+use Rattle.isa.specs.Operands.{width_of, element_of, digits_of, half_of, move_from, control_of}
 use Rattle.isa.specs.Table.{rows, find_in, matches_row, matches_w}
 use Rattle.isa.specs.declared.refusal.Field.TheVariants.{Vvvv}
 use Rattle.isa.specs.declared.refusal.Refusal.{Refusal}
@@ -11,7 +11,7 @@ use Rattle.isa.specs.declared.refusal.Refusal.TheVariants.{Argument, Truncated, 
 use Rattle.decode.specs.Prefix.{prefix_size, prefix_of, fixed_bits, head_of}
 use Rattle.decode.specs.Modrm.{sib_size, displacement_size}
 use Rattle.decode.specs.Reserved.{wrong_w, wrong_width, wrong_vvvv, wrong_broadcast, wrong_zeroing, check_of, needed_of, enough_of}
-use Rattle.decode.specs.Instruction.{first_of, third_of, immediate_of, instruction_of}
+use Rattle.decode.specs.Instruction.{encoding_of, first_of, third_of, immediate_of, instruction_of}
 use Rattle.decode.specs.Decode.{finish_of, on_total, on_row, on_head, known_of, decode_of}
 use Rattle.address.specs.Displacement.{signed_of, displacement_of}
 use Rattle.address.specs.Operand.{base_of, index_of, scale_of, operand_of}
@@ -234,7 +234,7 @@ pub record Examples : Type 0 where
   pub missing : address_of (0xC5 ∷ 0xF9 ∷ 0x70 ∷ 0x48 ∷ 0x80 ∷ 0x1B ∷ []) 0 (all 0) 0 ≡ Err Feature
 
 pub examples : Examples
-unfolding displacements bases indexes baseless wraps turns others tabulate address_of operand_of displacement_of signed_of base_of index_of scale_of decode_of known_of on_head on_row on_total finish_of head_of prefix_size prefix_of fixed_bits rows find_in matches_row matches_w sib_size displacement_size check_of wrong_w wrong_width wrong_vvvv wrong_broadcast wrong_zeroing enough_of needed_of has_feature instruction_of first_of third_of immediate_of width_of
+unfolding displacements bases indexes baseless wraps turns others tabulate address_of operand_of displacement_of signed_of base_of index_of scale_of decode_of known_of on_head on_row on_total finish_of head_of prefix_size prefix_of fixed_bits rows find_in matches_row matches_w sib_size displacement_size check_of wrong_w wrong_width wrong_vvvv wrong_broadcast wrong_zeroing enough_of needed_of has_feature instruction_of encoding_of first_of third_of immediate_of width_of element_of digits_of half_of move_from control_of
 examples =
     record {
       displaced = refl;

@@ -4,14 +4,14 @@ use Rattle.seq.specs.Tabulate.{tabulate}
 use Rattle.isa.specs.Kinds.{register_bytes, mask_count, map_entries, zero_entry}
 use Rattle.isa.specs.Features.{has_feature}
 use Rattle.isa.specs.FeatureSets.{numbers, is_closed}
-use Rattle.isa.specs.Operands.{width_of}
+use Rattle.isa.specs.Operands.{width_of, element_of, digits_of, half_of, move_from, control_of}
 use Rattle.isa.specs.Table.{rows, find_in, matches_row, matches_w}
 use Rattle.isa.specs.declared.refusal.Refusal.{Refusal}
 use Rattle.isa.specs.declared.refusal.Refusal.TheVariants.{Argument, Truncated, Unlisted, Unmappable, TooLong, BadEntry}
 use Rattle.decode.specs.Prefix.{prefix_size, prefix_of, fixed_bits, head_of}
 use Rattle.decode.specs.Modrm.{sib_size, displacement_size}
 use Rattle.decode.specs.Reserved.{wrong_w, wrong_width, wrong_vvvv, wrong_broadcast, wrong_zeroing, check_of, needed_of, enough_of}
-use Rattle.decode.specs.Instruction.{first_of, third_of, immediate_of, instruction_of}
+use Rattle.decode.specs.Instruction.{encoding_of, first_of, third_of, immediate_of, instruction_of}
 use Rattle.decode.specs.Decode.{finish_of, on_total, on_row, on_head, known_of, decode_of}
 use Rattle.decode.specs.Cases.{dword, turned, cleared}
 use Rattle.moves.specs.Pick.{digit, pick_of}
@@ -53,7 +53,7 @@ pub steps : builds list ∷ builds (take 9 list) ∷ builds (take 8 list) ∷ bu
     ∷ built 18 (Ok tt)
     ∷ built 0 (Err Unmappable)
     ∷ []
-unfolding build_of scanned_of build_split split mappable decode_of known_of on_head on_row on_total finish_of head_of prefix_size prefix_of fixed_bits rows find_in matches_row matches_w sib_size displacement_size check_of wrong_w wrong_width wrong_vvvv wrong_broadcast wrong_zeroing enough_of needed_of has_feature instruction_of first_of third_of immediate_of width_of
+unfolding build_of scanned_of build_split split mappable decode_of known_of on_head on_row on_total finish_of head_of prefix_size prefix_of fixed_bits rows find_in matches_row matches_w sib_size displacement_size check_of wrong_w wrong_width wrong_vvvv wrong_broadcast wrong_zeroing enough_of needed_of has_feature instruction_of encoding_of first_of third_of immediate_of width_of element_of digits_of half_of move_from control_of
 steps = refl
 
 -- a list of as many bytes as may be, of one more, and that with wrong masks, a wrong map, features over the limit or all features but AVX
@@ -75,7 +75,7 @@ twice = 0xC5 ∷ 0xF9 ∷ 0x70 ∷ 0xCA ∷ 0x1B ∷ 0xC5 ∷ 0xF9 ∷ 0x70 ∷ 
 -- registers 1, 2 and 3
 pub entries : take (3 * register_bytes) (drop register_bytes (map_built twice (replicate mask_count 0) 31 (replicate map_entries 0)))
     ≡ (turned 2 0 ++ cleared 48) ++ tabulate 64 (λ b. 2 * register_bytes + b) ++ (dword 2 0 ++ dword 2 1 ++ dword 2 2 ++ dword 2 3 ++ cleared 48)
-unfolding map_built map_of maps_of identity tabulate moved placed entry_of control_at origin_by pick_of digit bits_of written build_split split mappable decode_of known_of on_head on_row on_total finish_of head_of prefix_size prefix_of fixed_bits rows find_in matches_row matches_w sib_size displacement_size check_of wrong_w wrong_width wrong_vvvv wrong_broadcast wrong_zeroing enough_of needed_of has_feature instruction_of first_of third_of immediate_of width_of
+unfolding map_built map_of maps_of identity tabulate moved placed entry_of control_at origin_by pick_of digit bits_of written build_split split mappable decode_of known_of on_head on_row on_total finish_of head_of prefix_size prefix_of fixed_bits rows find_in matches_row matches_w sib_size displacement_size check_of wrong_w wrong_width wrong_vvvv wrong_broadcast wrong_zeroing enough_of needed_of has_feature instruction_of encoding_of first_of third_of immediate_of width_of element_of digits_of half_of move_from control_of
 entries = refl
 
 -- ---- applying and composing

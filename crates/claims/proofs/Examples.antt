@@ -9,12 +9,12 @@ use borrow.Author.Tests.{eq-eqb}
 use Rattle.seq.proofs.Tabulate.{get_d_tabulate}
 use Rattle.isa.specs.Kinds.{mask_count, map_entries, zero_entry}
 use Rattle.isa.specs.Features.{all_features, has_feature}
-use Rattle.isa.specs.Operands.{width_of}
+use Rattle.isa.specs.Operands.{width_of, element_of, digits_of, half_of, move_from, control_of}
 use Rattle.isa.specs.Table.{rows, find_in, matches_row, matches_w}
 use Rattle.decode.specs.Prefix.{prefix_size, prefix_of, fixed_bits, head_of}
 use Rattle.decode.specs.Modrm.{sib_size, displacement_size}
 use Rattle.decode.specs.Reserved.{wrong_w, wrong_width, wrong_vvvv, wrong_broadcast, wrong_zeroing, check_of, needed_of, enough_of}
-use Rattle.decode.specs.Instruction.{first_of, third_of, immediate_of, instruction_of}
+use Rattle.decode.specs.Instruction.{encoding_of, first_of, third_of, immediate_of, instruction_of}
 use Rattle.decode.specs.Decode.{finish_of, on_total, on_row, on_head, known_of, decode_of}
 use Rattle.moves.specs.Mappable.{mappable}
 use Rattle.moves.proofs.Laws.{outside, above_width}
@@ -43,7 +43,7 @@ module _ (masks : List ℕ) where
     entry3 : read_entry (map_of into3 masks all_features) 80 ≡ 80
 
   computed : length masks ≡ mask_count → Computed
-  unfolding Accepted build_of scanned_of map_of maps_of build_split mappable split decode_of known_of on_head on_row on_total finish_of head_of prefix_size prefix_of fixed_bits rows find_in matches_row matches_w sib_size displacement_size check_of wrong_w wrong_width wrong_vvvv wrong_broadcast wrong_zeroing enough_of needed_of has_feature instruction_of first_of third_of immediate_of width_of
+  unfolding Accepted build_of scanned_of map_of maps_of build_split mappable split decode_of known_of on_head on_row on_total finish_of head_of prefix_size prefix_of fixed_bits rows find_in matches_row matches_w sib_size displacement_size check_of wrong_w wrong_width wrong_vvvv wrong_broadcast wrong_zeroing enough_of needed_of has_feature instruction_of encoding_of first_of third_of immediate_of width_of element_of digits_of half_of move_from control_of
   computed e =
       let t = eq-eqb (length masks) mask_count e in
       let h : 80 < length identity = rw length_identity (lit< tt) in

@@ -20,10 +20,9 @@ use Rattle.isa.specs.declared.refusal.Field.TheVariants.{FixedBits}
 use Rattle.isa.specs.declared.refusal.Refusal.TheVariants.{Unlisted, Reserved}
 use Rattle.isa.specs.declared.table.Row.{Row}
 use Rattle.isa.specs.declared.table.Key.{Key}
-use Rattle.decode.specs.Prefix.{flag, prefix_size, prefix_of, vex2_of, vex3_of, evex_of, fixed_bits, key_of, head_of}
+use Rattle.decode.specs.Prefix.{prefix_size, prefix_of, vex2_of, vex3_of, evex_of, fixed_bits, key_of, head_of}
 use Rattle.decode.specs.Decode.{on_row, on_head, known_of, decode_of}
 use Rattle.decode.specs.declared.prefix.Prefix.{Prefix}
-use Rattle.decode.proofs.Laws.{most_flag}
 use Rattle.decode.proofs.Reasons.{first_wrong}
 use Rattle.std.proofs.Common.{None, Ok, Err}
 
@@ -31,16 +30,16 @@ use Rattle.std.proofs.Common.{None, Ok, Err}
 
 abbrev pub Ranged : ℕ → ℕ → ℕ → ℕ → Prefix → Type 0
 Ranged rs vs maps widths f =
-    (f.r < rs) × (f.x < 2) × (f.b < 2) × (f.v < vs) × (f.map < maps) × (f.pp < 4) × (f.w < 2) × (f.width < widths) × (flag f.z < 2) × (flag f.broadcast < 2) × (f.mask < 8)
+    (f.r < rs) × (f.x < 2) × (f.b < 2) × (f.v < vs) × (f.map < maps) × (f.pp < 4) × (f.w < 2) × (f.width < widths) × (f.z < 2) × (f.broadcast < 2) × (f.mask < 8)
 
 pub ranged_c5 : (p : ℕ) → Ranged 2 16 32 2 (vex2_of p)
-ranged_c5 p = (omega arith, omega arith, omega arith, omega arith, omega arith, omega arith, omega arith, omega arith, omega (arith, most_flag), omega (arith, most_flag), omega arith)
+ranged_c5 p = (omega arith, omega arith, omega arith, omega arith, omega arith, omega arith, omega arith, omega arith, omega arith, omega arith, omega arith)
 
 pub ranged_c4 : (p q : ℕ) → Ranged 2 16 32 2 (vex3_of p q)
-ranged_c4 p q = (omega arith, omega arith, omega arith, omega arith, omega arith, omega arith, omega arith, omega arith, omega (arith, most_flag), omega (arith, most_flag), omega arith)
+ranged_c4 p q = (omega arith, omega arith, omega arith, omega arith, omega arith, omega arith, omega arith, omega arith, omega arith, omega arith, omega arith)
 
 pub ranged_62 : (p q s : ℕ) → Ranged 4 32 8 4 (evex_of p q s)
-ranged_62 p q s = (omega arith, omega arith, omega arith, omega arith, omega arith, omega arith, omega arith, omega arith, omega (arith, most_flag), omega (arith, most_flag), omega arith)
+ranged_62 p q s = (omega arith, omega arith, omega arith, omega arith, omega arith, omega arith, omega arith, omega arith, omega arith, omega arith, omega arith)
 
 -- ---- the answer
 

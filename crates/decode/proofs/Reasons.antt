@@ -17,7 +17,7 @@ use Rattle.isa.specs.declared.refusal.Field.TheVariants.{FixedBits, W, Width, Vv
 use Rattle.isa.specs.declared.refusal.Refusal.{Refusal}
 use Rattle.isa.specs.declared.refusal.Refusal.TheVariants.{Argument, Truncated, Unlisted, Reserved, Feature}
 use Rattle.isa.specs.declared.table.Row.{Row}
-use Rattle.decode.specs.Prefix.{flag, prefix_size, fixed_bits, key_of, head_of}
+use Rattle.decode.specs.Prefix.{prefix_size, fixed_bits, key_of, head_of}
 use Rattle.decode.specs.Modrm.{total_of}
 use Rattle.decode.specs.Reserved.{wrong_w, wrong_width, wrong_vvvv, wrong_broadcast, wrong_zeroing, check_of, enough_of}
 use Rattle.decode.specs.Fields.{prefix_in, row_in, is_wrong}
@@ -143,7 +143,7 @@ module _ (code : List ℕ) (features : ℕ) (field : Field) where
   unfolding on_row on_total finish_of
   by_row f p fixed None q e = absurd (not_other field Unlisted (λ h. omega arith) e)
   by_row f p fixed (Some row) q e =
-      let s = took_second (ltb (length code) (total_of f.size (flag row.immediate) (get_or code (f.size + 1) 0) (get_or code (f.size + 2) 0))) _ _ (Err (Reserved field)) (not_other field Truncated (λ h. omega arith)) e in
+      let s = took_second (ltb (length code) (total_of f.size row.immediate (get_or code (f.size + 1) 0) (get_or code (f.size + 2) 0))) _ _ (Err (Reserved field)) (not_other field Truncated (λ h. omega arith)) e in
       from_check code fixed row (rw p q) field (rw p (by_check _ row f _ _ _ s.1))
 
   by_head : (k : Result Prefix Refusal) → head_in ≡ k → on_head k code features ≡ Err (Reserved field) → FirstWrong code field

@@ -3,7 +3,7 @@
 -- are added. V'.vvvv takes bits of Q and of S: each of the two is computed with none and with all bits of the other.
 use Rattle.std.specs.Prelude.{ℕ, ◌+◌, ◌-◌, ◌*◌, ◌/◌, ◌%◌, ◌≡◌, refl, List}
 use Rattle.seq.specs.Tabulate.{tabulate}
-use Rattle.decode.specs.Prefix.{bit, flag, vex2_of, vex3_of, evex_of}
+use Rattle.decode.specs.Prefix.{bit, vex2_of, vex3_of, evex_of}
 use Rattle.decode.specs.declared.prefix.Prefix.{Prefix}
 
 -- C5 P
@@ -25,7 +25,7 @@ abbrev pub q_of62 : Prefix → ℕ
 q_of62 f = 128 * f.w + 8 * (15 - f.v % 16) + f.pp
 
 abbrev pub s_of62 : Prefix → ℕ
-s_of62 f = 128 * flag f.z + 32 * f.width + 16 * flag f.broadcast + 8 * (1 - f.v / 16) + f.mask
+s_of62 f = 128 * f.z + 32 * f.width + 16 * f.broadcast + 8 * (1 - f.v / 16) + f.mask
 
 abbrev pub every_byte : List ℕ
 every_byte = tabulate 256 (λ b. b)

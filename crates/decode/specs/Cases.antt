@@ -6,7 +6,7 @@ use Rattle.seq.specs.Tabulate.{tabulate}
 use Rattle.isa.specs.Kinds.{register_bytes, zero_entry}
 use Rattle.isa.specs.Features.{all_features, has_feature}
 use Rattle.isa.specs.Operands as Names
-use Rattle.isa.specs.Operands.{width_of}
+use Rattle.isa.specs.Operands.{width_of, element_of, digits_of, half_of, move_from, control_of}
 use Rattle.isa.specs.Table.{rows, find_in, matches_row, matches_w}
 use Rattle.isa.specs.declared.operands.Mnemonic.{Mnemonic}
 use Rattle.isa.specs.declared.operands.Encoding.{Encoding}
@@ -26,7 +26,7 @@ use Rattle.isa.specs.declared.refusal.Refusal.TheVariants.{Argument, Truncated, 
 use Rattle.decode.specs.Prefix.{prefix_size, prefix_of, fixed_bits, head_of}
 use Rattle.decode.specs.Modrm.{sib_size, displacement_size}
 use Rattle.decode.specs.Reserved.{wrong_w, wrong_width, wrong_vvvv, wrong_broadcast, wrong_zeroing, check_of, needed_of, enough_of}
-use Rattle.decode.specs.Instruction.{first_of, third_of, immediate_of, instruction_of}
+use Rattle.decode.specs.Instruction.{encoding_of, first_of, third_of, immediate_of, instruction_of}
 use Rattle.decode.specs.Decode.{finish_of, on_total, on_row, on_head, known_of, decode_of, answer_of}
 use Rattle.decode.specs.declared.instruction.Third.{Third}
 use Rattle.decode.specs.declared.instruction.Instruction.{Instruction}
@@ -371,7 +371,7 @@ Decodes cases =
     × (map (λ (c : Case). answer_of c.gives) cases ≡ map (λ (c : Case). c.answer) cases)
 
 pub starred_decode : Decodes starred_cases
-unfolding starred_cases decode_of known_of on_head on_row on_total finish_of head_of prefix_size prefix_of fixed_bits rows find_in matches_row matches_w sib_size displacement_size check_of wrong_w wrong_width wrong_vvvv wrong_broadcast wrong_zeroing enough_of needed_of has_feature instruction_of first_of third_of immediate_of width_of
+unfolding starred_cases decode_of known_of on_head on_row on_total finish_of head_of prefix_size prefix_of fixed_bits rows find_in matches_row matches_w sib_size displacement_size check_of wrong_w wrong_width wrong_vvvv wrong_broadcast wrong_zeroing enough_of needed_of has_feature instruction_of encoding_of first_of third_of immediate_of width_of element_of digits_of half_of move_from control_of
 starred_decode = (refl, refl)
 
 -- the same cases under other features
@@ -380,29 +380,29 @@ under features cases =
     map (λ (c : Case). record { bytes = c.bytes; features = features; answer = c.answer; gives = c.gives; places = c.places }) cases
 
 pub starred_decode_all : Decodes (under all_features starred_cases)
-unfolding starred_cases decode_of known_of on_head on_row on_total finish_of head_of prefix_size prefix_of fixed_bits rows find_in matches_row matches_w sib_size displacement_size check_of wrong_w wrong_width wrong_vvvv wrong_broadcast wrong_zeroing enough_of needed_of has_feature instruction_of first_of third_of immediate_of width_of
+unfolding starred_cases decode_of known_of on_head on_row on_total finish_of head_of prefix_size prefix_of fixed_bits rows find_in matches_row matches_w sib_size displacement_size check_of wrong_w wrong_width wrong_vvvv wrong_broadcast wrong_zeroing enough_of needed_of has_feature instruction_of encoding_of first_of third_of immediate_of width_of element_of digits_of half_of move_from control_of
 starred_decode_all = (refl, refl)
 
 pub further_decode : Decodes further_cases
-unfolding further_cases decode_of known_of on_head on_row on_total finish_of head_of prefix_size prefix_of fixed_bits rows find_in matches_row matches_w sib_size displacement_size check_of wrong_w wrong_width wrong_vvvv wrong_broadcast wrong_zeroing enough_of needed_of has_feature instruction_of first_of third_of immediate_of width_of
+unfolding further_cases decode_of known_of on_head on_row on_total finish_of head_of prefix_size prefix_of fixed_bits rows find_in matches_row matches_w sib_size displacement_size check_of wrong_w wrong_width wrong_vvvv wrong_broadcast wrong_zeroing enough_of needed_of has_feature instruction_of encoding_of first_of third_of immediate_of width_of element_of digits_of half_of move_from control_of
 further_decode = (refl, refl)
 
 pub requested_decode : Decodes requested_cases
-unfolding requested_cases decode_of known_of on_head on_row on_total finish_of head_of prefix_size prefix_of fixed_bits rows find_in matches_row matches_w sib_size displacement_size check_of wrong_w wrong_width wrong_vvvv wrong_broadcast wrong_zeroing enough_of needed_of has_feature instruction_of first_of third_of immediate_of width_of
+unfolding requested_cases decode_of known_of on_head on_row on_total finish_of head_of prefix_size prefix_of fixed_bits rows find_in matches_row matches_w sib_size displacement_size check_of wrong_w wrong_width wrong_vvvv wrong_broadcast wrong_zeroing enough_of needed_of has_feature instruction_of encoding_of first_of third_of immediate_of width_of element_of digits_of half_of move_from control_of
 requested_decode = (refl, refl)
 
 pub reserved_decode : Decodes reserved_cases
-unfolding reserved_cases decode_of known_of on_head on_row on_total finish_of head_of prefix_size prefix_of fixed_bits rows find_in matches_row matches_w sib_size displacement_size check_of wrong_w wrong_width wrong_vvvv wrong_broadcast wrong_zeroing enough_of needed_of has_feature instruction_of first_of third_of immediate_of width_of
+unfolding reserved_cases decode_of known_of on_head on_row on_total finish_of head_of prefix_size prefix_of fixed_bits rows find_in matches_row matches_w sib_size displacement_size check_of wrong_w wrong_width wrong_vvvv wrong_broadcast wrong_zeroing enough_of needed_of has_feature instruction_of encoding_of first_of third_of immediate_of width_of element_of digits_of half_of move_from control_of
 reserved_decode = (refl, refl)
 
 pub feature_sets_decode : Decodes feature_set_cases
-unfolding feature_set_cases decode_of known_of on_head on_row on_total finish_of head_of prefix_size prefix_of fixed_bits rows find_in matches_row matches_w sib_size displacement_size check_of wrong_w wrong_width wrong_vvvv wrong_broadcast wrong_zeroing enough_of needed_of has_feature instruction_of first_of third_of immediate_of width_of
+unfolding feature_set_cases decode_of known_of on_head on_row on_total finish_of head_of prefix_size prefix_of fixed_bits rows find_in matches_row matches_w sib_size displacement_size check_of wrong_w wrong_width wrong_vvvv wrong_broadcast wrong_zeroing enough_of needed_of has_feature instruction_of encoding_of first_of third_of immediate_of width_of element_of digits_of half_of move_from control_of
 feature_sets_decode = (refl, refl)
 
 pub map_decode : Decodes map_cases
-unfolding map_cases decode_of known_of on_head on_row on_total finish_of head_of prefix_size prefix_of fixed_bits rows find_in matches_row matches_w sib_size displacement_size check_of wrong_w wrong_width wrong_vvvv wrong_broadcast wrong_zeroing enough_of needed_of has_feature instruction_of first_of third_of immediate_of width_of
+unfolding map_cases decode_of known_of on_head on_row on_total finish_of head_of prefix_size prefix_of fixed_bits rows find_in matches_row matches_w sib_size displacement_size check_of wrong_w wrong_width wrong_vvvv wrong_broadcast wrong_zeroing enough_of needed_of has_feature instruction_of encoding_of first_of third_of immediate_of width_of element_of digits_of half_of move_from control_of
 map_decode = (refl, refl)
 
 pub register_decode : Decodes register_cases
-unfolding register_cases tabulate decode_of known_of on_head on_row on_total finish_of head_of prefix_size prefix_of fixed_bits rows find_in matches_row matches_w sib_size displacement_size check_of wrong_w wrong_width wrong_vvvv wrong_broadcast wrong_zeroing enough_of needed_of has_feature instruction_of first_of third_of immediate_of width_of
+unfolding register_cases tabulate decode_of known_of on_head on_row on_total finish_of head_of prefix_size prefix_of fixed_bits rows find_in matches_row matches_w sib_size displacement_size check_of wrong_w wrong_width wrong_vvvv wrong_broadcast wrong_zeroing enough_of needed_of has_feature instruction_of encoding_of first_of third_of immediate_of width_of element_of digits_of half_of move_from control_of
 register_decode = (refl, refl)

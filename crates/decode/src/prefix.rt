@@ -6,10 +6,10 @@ use isa::operands::Encoding;
 use isa::refusal::{Field, Refusal};
 use isa::table::Key;
 
-// The fields of a prefix of any kind, none inverted.
+// The fields of a prefix of any kind, none inverted. Numbers: what takes a prefix has an answer for every number.
 #[derive(Clone, Copy)]
 pub struct Prefix {
-    pub encoding: Encoding,
+    pub encoding: u8,
     // Bytes of the prefix.
     pub size: u8,
     // R'.R
@@ -18,14 +18,12 @@ pub struct Prefix {
     pub b: u8,
     // V'.vvvv
     pub v: u8,
-    // Map, pp and W are numbers, since a prefix can have some that no row has (`no_row_under_62`).
     pub map: u8,
     pub pp: u8,
     pub w: u8,
-    // A number and no `Width`, since a prefix can have the value that is reserved, and `s_bits_of_62` speaks of the number.
     pub width: u8,
-    pub z: bool,
-    pub broadcast: bool,
+    pub z: u8,
+    pub broadcast: u8,
     pub mask: u8,
 }
 
@@ -61,7 +59,7 @@ fn vex2(p: u8) -> Prefix
     ensures { result ≡ vex2_of p }
 {
     Prefix {
-        encoding: Encoding::Vex,
+        encoding: Encoding::VEX,
         size: 2,
         r: 1 - p / 128 % 2,
         x: 0,
@@ -71,8 +69,8 @@ fn vex2(p: u8) -> Prefix
         pp: p % 4,
         w: 0,
         width: p / 4 % 2,
-        z: false,
-        broadcast: false,
+        z: 0,
+        broadcast: 0,
         mask: 0,
     }
 }
@@ -81,7 +79,7 @@ fn vex3(p: u8, q: u8) -> Prefix
     ensures { result ≡ vex3_of p q }
 {
     Prefix {
-        encoding: Encoding::Vex,
+        encoding: Encoding::VEX,
         size: 3,
         r: 1 - p / 128 % 2,
         x: 1 - p / 64 % 2,
@@ -91,8 +89,8 @@ fn vex3(p: u8, q: u8) -> Prefix
         pp: q % 4,
         w: q / 128 % 2,
         width: q / 4 % 2,
-        z: false,
-        broadcast: false,
+        z: 0,
+        broadcast: 0,
         mask: 0,
     }
 }
@@ -101,7 +99,7 @@ fn evex(p: u8, q: u8, s: u8) -> Prefix
     ensures { result ≡ evex_of p q s }
 {
     Prefix {
-        encoding: Encoding::Evex,
+        encoding: Encoding::EVEX,
         size: 4,
         r: 1 - p / 128 % 2 + 2 * (1 - p / 16 % 2),
         x: 1 - p / 64 % 2,
@@ -111,8 +109,8 @@ fn evex(p: u8, q: u8, s: u8) -> Prefix
         pp: q % 4,
         w: q / 128 % 2,
         width: s / 32 % 4,
-        z: s / 128 % 2 == 1,
-        broadcast: s / 16 % 2 == 1,
+        z: s / 128 % 2,
+        broadcast: s / 16 % 2,
         mask: s % 8,
     }
 }

@@ -1,4 +1,4 @@
--- The numbers by which the facts of the table speak of a move and a control: read back, they are the same.
+-- A row's columns carry the move and the control of its line in the table: read back, they are the same.
 use mathlib.Core.Path.{◌≡◌, refl}
 use Rattle.isa.specs.Operands.{digits_of, digit_bits, half_of, half_number, move_from, move_kind, move_bits, move_group, control_of, control_number}
 use Rattle.isa.specs.declared.operands.Digits.{Digits}

@@ -7,7 +7,7 @@ use mathlib.Core.Bool.{Bool, true, false}
 use native.Mathlib.Omega.{arith}
 use native.Mathlib.Nat.{div-add-mod, mod-lt, div-eq_of_lt-le, mul_comm, dvd_of_mod-eq-zero, dvd_trans, le_of_dvd, pos_of_dvd_of_pos, le-div_iff_mul-le, mul-div_cancel', div-mul_cancel, mul-le-mul_left, lt_of_mul-lt-mul_left}
 use lib.Dec.{eqb, lit≤}
-use borrow.Author.Tests.{eqb-true}
+use borrow.Author.Tests.{eqb-true, eqb-false}
 use Rattle.isa.specs.Operands.{width_of, width_number, width_bytes, element_bytes}
 use Rattle.isa.specs.declared.operands.Width.{Width}
 use Rattle.isa.specs.declared.operands.Width.TheVariants.{Bits128, Bits256, Bits512}
@@ -37,19 +37,19 @@ width_back Bits128 = refl
 width_back Bits256 = refl
 width_back Bits512 = refl
 
-pub wider : (least : Width) (field : ℕ) → width_number least ≤ field → width_bytes least ≤ width_bytes (width_of field)
+pub wider : (least width : ℕ) → least ≤ width → width_bytes (width_of least) ≤ width_bytes (width_of width)
 unfolding width_of
-wider least field h = by least h (eqb field 0) refl (eqb field 1) refl
+wider least width h = by (eqb least 0) refl (eqb least 1) refl (eqb width 0) refl (eqb width 1) refl
   where
-    by : (least : Width) → width_number least ≤ field → (c : Bool) → eqb field 0 ≡ c → (d : Bool) → eqb field 1 ≡ d
-        → width_bytes least ≤ width_bytes (if c then Bits128 else if d then Bits256 else Bits512)
-    by Bits128 h c r d s = (width_lanes (if c then Bits128 else if d then Bits256 else Bits512)).least
-    by Bits256 h true r d s = absurd (omega (arith, eqb-true field 0 r))
-    by Bits256 h false r true s = lit≤ tt
-    by Bits256 h false r false s = lit≤ tt
-    by Bits512 h true r d s = absurd (omega (arith, eqb-true field 0 r))
-    by Bits512 h false r true s = absurd (omega (arith, eqb-true field 1 s))
-    by Bits512 h false r false s = lit≤ tt
+    by : (a : Bool) → eqb least 0 ≡ a → (b : Bool) → eqb least 1 ≡ b → (c : Bool) → eqb width 0 ≡ c → (d : Bool) → eqb width 1 ≡ d
+        → width_bytes (if a then Bits128 else if b then Bits256 else Bits512) ≤ width_bytes (if c then Bits128 else if d then Bits256 else Bits512)
+    by true p b q c r d s = (width_lanes (if c then Bits128 else if d then Bits256 else Bits512)).least
+    by false p true q true r d s = absurd (omega (arith, eqb-true least 1 q, eqb-true width 0 r))
+    by false p true q false r true s = lit≤ tt
+    by false p true q false r false s = lit≤ tt
+    by false p false q true r d s = absurd (omega (arith, eqb-false least 0 p, eqb-true width 0 r))
+    by false p false q false r true s = absurd (omega (arith, eqb-false least 0 p, eqb-false least 1 q, eqb-true width 1 s))
+    by false p false q false r false s = lit≤ tt
 
 -- the next byte is of the same element, unless it starts one
 pub same_element : (n i : ℕ) → 0 < n → ((i + 1) % n ≡ 0 → ⊥) → (i + 1) / n ≡ i / n

@@ -1,10 +1,9 @@
 -- Rules 3.5 to 3.7, 4.5 to 4.7, 4.9, 4.17 and 5.7, and the W of table 3.1, said of the whole table: each is a test of a row, and every row passes it.
 -- And rules 1.6, 3.1 and 3.2 by numbers.
 use Rattle.std.specs.Prelude.{◌*◌, ◌/◌, ◌^◌, ◌≡◌, refl, Bool, true, not, List, [], ◌∷◌, map, eqb, length, replicate, if◌then◌else◌}
-use Rattle.std.specs.Option.{option_eq}
 use Rattle.seq.specs.Choice.{both, either}
-use Rattle.isa.specs.Features.{avx, avx2, avx512f, avx512vl, avx512vbmi, avx512bw, all_features, feature_bit, has_feature}
-use Rattle.isa.specs.Operands.{mnemonic_number, vpermilpd, vpermb, vpshufd, vperm2f128, vpermilps, vunpckhps, vunpckhpd, vpshufb, under_vex, under_evex, width_of, width_number, width_bytes, element_bytes, half_number, move_kind, move_bits, move_group, control_number}
+use Rattle.isa.specs.Features.{avx, avx2, avx512f, avx512vl, avx512vbmi, avx512bw, all_features, has_feature}
+use Rattle.isa.specs.Operands.{mnemonic_number, vpermilpd, vpermb, vpshufd, vperm2f128, vpermilps, vunpckhps, vunpckhpd, vpshufb, under_vex, under_evex, width_of, width_bytes, half_number, control_number}
 use Rattle.isa.specs.Table.{w0, w1, any_w, from128, from256, table, rows}
 use Rattle.isa.specs.declared.operands.Mnemonic.{Mnemonic}
 use Rattle.isa.specs.declared.operands.Half.{Half}
@@ -16,17 +15,13 @@ every fact [] = true
 every fact (row ∷ more) = both (fact row) (every fact more)
 
 abbrev pub named : Mnemonic → Row → Bool
-named name row = eqb (mnemonic_number row.mnemonic) (mnemonic_number name)
-
--- whether two tests say the same
-abbrev pub same : Bool → Bool → Bool
-same a b = if a then b else not b
+named name row = eqb row.mnemonic (mnemonic_number name)
 
 -- rule 3.5: VEX needs AVX, but AVX2 for VPSHUFD and VPSHUFB of 256 bits; EVEX needs AVX512F, but AVX512_VBMI for VPERMB and AVX512BW for VPSHUFB
 abbrev pub needed : Row → Bool
 needed row =
-    if under_vex row.encoding then both (eqb (feature_bit row.needs) avx) (eqb (feature_bit row.needs256) (if either (named vpshufd row) (named vpshufb row) then avx2 else avx))
-    else both (eqb (feature_bit row.needs) (if named vpermb row then avx512vbmi else if named vpshufb row then avx512bw else avx512f)) (eqb (feature_bit row.needs256) (feature_bit row.needs))
+    if eqb row.encoding under_vex then both (eqb row.needs avx) (eqb row.needs256 (if either (named vpshufd row) (named vpshufb row) then avx2 else avx))
+    else both (eqb row.needs (if named vpermb row then avx512vbmi else if named vpshufb row then avx512bw else avx512f)) (eqb row.needs256 row.needs)
 
 abbrev pub permil : Row → Bool
 permil row = either (named vpermilpd row) (named vpermilps row)
@@ -35,27 +30,27 @@ permil row = either (named vpermilpd row) (named vpermilps row)
 -- counts for nothing in the other rows
 abbrev pub wide : Row → Bool
 wide row =
-    if under_evex row.encoding then option_eq eqb row.w (if eqb (element_bytes row.element) 8 then w1 else if named vpshufb row then any_w else w0)
-    else option_eq eqb row.w (if either (permil row) (named vperm2f128 row) then w0 else any_w)
+    if eqb row.encoding under_evex then eqb row.w (if eqb row.element 8 then w1 else if named vpshufb row then any_w else w0)
+    else eqb row.w (if either (permil row) (named vperm2f128 row) then w0 else any_w)
 
 -- rule 5.7: VPERM2F128 alone has no 128 bits
 abbrev pub narrow : Row → Bool
-narrow row = eqb (width_number row.least) (width_number (if named vperm2f128 row then from256 else from128))
+narrow row = eqb row.least (if named vperm2f128 row then from256 else from128)
 
 -- rule 3.7: every EVEX row but VPERMB's and VPSHUFB's can repeat an element, and no VEX row
 abbrev pub repeats : Row → Bool
-repeats row = same row.broadcast (both (under_evex row.encoding) (not (either (named vpermb row) (named vpshufb row))))
+repeats row = eqb row.broadcast (if both (eqb row.encoding under_evex) (not (either (named vpermb row) (named vpshufb row))) then 1 else 0)
 
 -- rule 3.6: of the rows with an immediate, VPERM2F128 alone has a first source; every other row has one
 abbrev pub sourced : Row → Bool
-sourced row = same row.first (not (both row.immediate (not (named vperm2f128 row))))
+sourced row = eqb row.first (if both (eqb row.immediate 1) (not (named vperm2f128 row)) then 0 else 1)
 
 -- rule 4.5: an immediate is the control where there is one. Else VPERMB's control is in its first source, and that of VPERMILPD, VPERMILPS and VPSHUFB
 -- in the third operand
 abbrev pub controlled : Row → Bool
 controlled row =
-    eqb (control_number row.control)
-    (if row.immediate then control_number Control.Immediate
+    eqb row.control
+    (if eqb row.immediate 1 then control_number Control.Immediate
     else if named vpermb row then control_number Control.First
     else if either (permil row) (named vpshufb row) then control_number Control.Third
     else control_number Control.Nowhere)
@@ -64,17 +59,17 @@ controlled row =
 -- that counts for quadwords, and bit 0 for doublewords
 abbrev pub digits : Row → Bool
 digits row =
-    if eqb (move_kind row.moves) 1 then eqb (2 ^ move_bits row.moves * element_bytes row.element) (width_bytes (width_of (move_group row.moves)))
-    else if eqb (move_kind row.moves) 2 then eqb (2 ^ move_bits row.moves * 4) (element_bytes row.element)
+    if eqb row.kind 1 then eqb (2 ^ row.bits * row.element) (width_bytes (width_of row.group))
+    else if eqb row.kind 2 then eqb (2 ^ row.bits * 4) row.element
     else true
 
 -- rule 4.9: of the rows that take halves of a lane, VUNPCKHPS and VUNPCKHPD take the high ones
 abbrev pub halved : Row → Bool
-halved row = either (not (eqb (move_kind row.moves) 4)) (eqb (move_bits row.moves) (half_number (if either (named vunpckhps row) (named vunpckhpd row) then Half.High else Half.Low)))
+halved row = either (not (eqb row.kind 4)) (eqb row.bits (half_number (if either (named vunpckhps row) (named vunpckhpd row) then Half.High else Half.Low)))
 
 -- rule 4.17: VPSHUFB, and no other, clears by a bit of its control in a register
 abbrev pub clears : Row → Bool
-clears row = same (eqb (move_kind row.moves) 6) (named vpshufb row)
+clears row = eqb (if eqb row.kind 6 then 1 else 0) (if named vpshufb row then 1 else 0)
 
 abbrev pub facts : Row → Bool
 facts row =

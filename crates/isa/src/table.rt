@@ -3,37 +3,43 @@ ghost use Rattle.std.specs.Prelude.{◌≡◌};
 ghost use Rattle.isa.specs.Table.{rows, matches_row, find_in};
 
 use crate::features::Feature;
-use crate::operands::{Control, Digits, Element, Encoding, Half, Mnemonic, Move, Width};
+use crate::operands::{Control, Element, Encoding, Half, Mnemonic, Move, Width};
 
-// A decoding row. Its key is opcode, map, pp, encoding and, under EVEX, W.
+// A decoding row. Its key is opcode, map, pp, encoding and, under EVEX, W. Numbers and no enums: what takes a row has an answer for every
+// number, and `Element::of`, `Move::of` and `Control::of` make the enums.
 #[derive(Clone, Copy)]
 pub struct Row {
-    pub mnemonic: Mnemonic,
-    pub encoding: Encoding,
+    pub mnemonic: u8,
+    pub encoding: u8,
     pub pp: u8,
     pub map: u8,
     pub opcode: u8,
-    // The W that is wanted, or none where any will do.
-    pub w: Option<u8>,
-    pub least: Width,
-    pub immediate: bool,
-    // Whether there is a first source.
-    pub first: bool,
-    pub element: Element,
-    // Whether a memory element can be repeated.
-    pub broadcast: bool,
+    // 0 or 1, the W that is wanted, or ANY_W.
+    pub w: u8,
+    // The least that the width field may be.
+    pub least: u8,
+    // Bytes of immediate.
+    pub immediate: u8,
+    // 1 where there is a first source.
+    pub first: u8,
+    // Bytes of an element.
+    pub element: u8,
+    // 1 where a memory element can be repeated.
+    pub broadcast: u8,
     // The feature needed, and the one at 256 bits.
-    pub needs: Feature,
-    pub needs256: Feature,
-    // How it chooses, and where its control stands.
-    pub moves: Move,
-    pub control: Control,
+    pub needs: u8,
+    pub needs256: u8,
+    // How it chooses: the kind of move, the digits' bits, the control's first bit or the half, the group's width, and the control.
+    pub kind: u8,
+    pub bits: u8,
+    pub group: u8,
+    pub control: u8,
 }
 
 // What a row is looked up by.
 #[derive(Clone, Copy)]
 pub struct Key {
-    pub encoding: Encoding,
+    pub encoding: u8,
     pub pp: u8,
     pub map: u8,
     pub opcode: u8,
@@ -41,6 +47,8 @@ pub struct Key {
 }
 
 impl Row {
+    pub const ANY_W: u8 = 2;
+
     // VEX rows are looked up whatever W is, EVEX rows by theirs.
     #[tactic(auto, unfolding(crate::specs::Table::matches_row, crate::specs::Table::matches_w))]
     fn matches(self, key: Key) -> bool
@@ -50,46 +58,47 @@ impl Row {
             && self.map == key.map
             && self.pp == key.pp
             && self.encoding == key.encoding
-            && (key.encoding == Encoding::Vex || self.w.is_none_or(|wanted| wanted == key.w))
+            && (key.encoding == Encoding::VEX || self.w == Row::ANY_W || self.w == key.w)
     }
 }
 
 // The columns' values, as the manual abbreviates them.
-const W0: Option<u8> = Some(0);
+const W0: u8 = 0;
 
-const W1: Option<u8> = Some(1);
+const W1: u8 = 1;
 
-const WIG: Option<u8> = None;
+const WIG: u8 = Row::ANY_W;
 
-const XMM: Width = Width::Bits128;
+const XMM: u8 = Width::L128;
 
-const YMM: Width = Width::Bits256;
+const YMM: u8 = Width::L256;
 
-const IMM8: bool = true;
+const IMM8: u8 = 1;
 
-const FIRST: bool = true;
+const FIRST: u8 = 1;
 
-const REPEATS: bool = true;
+const REPEATS: u8 = 1;
 
-const NONE: bool = false;
+const NONE: u8 = 0;
 
-const DIGIT1: Move = Move::ByDigit(Digits::One, Width::Bits128);
+// A move's kind, its bits and its group.
+const DIGIT1: (u8, u8, u8) = (Move::BY_DIGIT, 1, Width::L128);
 
-const DIGIT2: Move = Move::ByDigit(Digits::Two, Width::Bits128);
+const DIGIT2: (u8, u8, u8) = (Move::BY_DIGIT, 2, Width::L128);
 
-const LANE0: Move = Move::InLane(0);
+const LANE0: (u8, u8, u8) = (Move::IN_LANE, 0, 0);
 
-const LANE1: Move = Move::InLane(1);
+const LANE1: (u8, u8, u8) = (Move::IN_LANE, 1, 0);
 
-const ANYWHERE: Move = Move::Anywhere;
+const ANYWHERE: (u8, u8, u8) = (Move::ANYWHERE, 0, 0);
 
-const LOW: Move = Move::Halves(Half::Low);
+const LOW: (u8, u8, u8) = (Move::HALVES, Half::LOW, 0);
 
-const HIGH: Move = Move::Halves(Half::High);
+const HIGH: (u8, u8, u8) = (Move::HALVES, Half::HIGH, 0);
 
-const LANE_OR_ZERO: Move = Move::LaneOrZero;
+const LANE_OR_ZERO: (u8, u8, u8) = (Move::LANE_OR_ZERO, 0, 0);
 
-const IN_LANE_OR_ZERO: Move = Move::InLaneOrZero;
+const IN_LANE_OR_ZERO: (u8, u8, u8) = (Move::IN_LANE_OR_ZERO, 0, 0);
 
 // A row in the order of table 3.1: name and the form's own columns; pp, map, opcode; immediate, element, first source; move, control.
 // A macro, since a constant's value calls no function and a row is to be a line.
@@ -107,8 +116,8 @@ macro_rules! row {
      $immediate:ident $element:ident $first:ident,
      $moves:ident $control:ident) => {
         Row {
-            mnemonic: Mnemonic(Mnemonic::$name),
-            encoding: Encoding::$encoding,
+            mnemonic: Mnemonic::$name,
+            encoding: Encoding::$encoding as u8,
             pp: $pp,
             map: $map,
             opcode: $opcode,
@@ -116,12 +125,14 @@ macro_rules! row {
             least: $least,
             immediate: $immediate,
             first: $first,
-            element: Element::$element,
+            element: Element::$element as u8,
             broadcast: $broadcast,
-            needs: Feature::$needs,
-            needs256: Feature::$needs256,
-            moves: $moves,
-            control: Control::$control,
+            needs: Feature::$needs as u8,
+            needs256: Feature::$needs256 as u8,
+            kind: $moves.0,
+            bits: $moves.1,
+            group: $moves.2,
+            control: Control::$control as u8,
         }
     };
 }

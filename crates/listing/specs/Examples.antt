@@ -2,14 +2,14 @@
 use Rattle.std.specs.Prelude.{ℕ, ◌+◌, ◌*◌, ◌≡◌, refl, Bool, true, false, List, [], ◌∷◌, ◌++◌, map, length, replicate, Ok, Err}
 use Rattle.isa.specs.Kinds.{text_whole}
 use Rattle.isa.specs.Features.{has_feature}
-use Rattle.isa.specs.Operands.{width_of}
+use Rattle.isa.specs.Operands.{width_of, element_of, digits_of, half_of, move_from, control_of}
 use Rattle.isa.specs.Table.{rows, find_in, matches_row, matches_w}
 use Rattle.isa.specs.declared.refusal.Refusal.{Refusal}
 use Rattle.isa.specs.declared.refusal.Refusal.TheVariants.{Argument, TooLong}
 use Rattle.decode.specs.Prefix.{prefix_size, prefix_of, fixed_bits, head_of}
 use Rattle.decode.specs.Modrm.{sib_size, displacement_size}
 use Rattle.decode.specs.Reserved.{wrong_w, wrong_width, wrong_vvvv, wrong_broadcast, wrong_zeroing, check_of, needed_of, enough_of}
-use Rattle.decode.specs.Instruction.{first_of, third_of, immediate_of, instruction_of}
+use Rattle.decode.specs.Instruction.{encoding_of, first_of, third_of, immediate_of, instruction_of}
 use Rattle.decode.specs.Decode.{finish_of, on_total, on_row, on_head, known_of, decode_of}
 use Rattle.run.specs.Split.{split}
 use Rattle.run.specs.Run.{whole_budget}
@@ -50,12 +50,12 @@ pub texts : listing_text sample ∷ listing_text names ∷ listing_text requeste
     ∷ ascii "at\tlen\tname\tbits\tanswer\n0\t6\tVPERMILPS\t128\t0\n6\t4\tVUNPCKHPS\t128\t0\n10\t6\tVUNPCKLPD\t512\t0\n16\t4\tVUNPCKHPD\t256\t0\n20\t6\tVPSHUFB\t512\t0\n"
     ∷ ascii "at\tlen\tname\tbits\tanswer\n"
     ∷ []
-unfolding listing_text texts_by lines_from end_from split_from step_lines last_lines line_text reason_text decimal digits split decode_of known_of on_head on_row on_total finish_of head_of prefix_size prefix_of fixed_bits rows find_in matches_row matches_w sib_size displacement_size check_of wrong_w wrong_width wrong_vvvv wrong_broadcast wrong_zeroing enough_of needed_of has_feature instruction_of first_of third_of immediate_of width_of
+unfolding listing_text texts_by lines_from end_from split_from step_lines last_lines line_text reason_text decimal digits split decode_of known_of on_head on_row on_total finish_of head_of prefix_size prefix_of fixed_bits rows find_in matches_row matches_w sib_size displacement_size check_of wrong_w wrong_width wrong_vvvv wrong_broadcast wrong_zeroing enough_of needed_of has_feature instruction_of encoding_of first_of third_of immediate_of width_of element_of digits_of half_of move_from control_of
 texts = refl
 
 pub reasons : map listing_text wrong ≡ map (λ (line : List ℕ). ascii "at\tlen\tname\tbits\tanswer\n0\t0\t-\t0\t4:" ++ line)
     (ascii "1\n" ∷ ascii "2\n" ∷ ascii "3\n" ∷ ascii "4\n" ∷ ascii "5\n" ∷ ascii "6\n" ∷ [])
-unfolding listing_text texts_by lines_from end_from split_from step_lines last_lines line_text reason_text decimal digits split decode_of known_of on_head on_row on_total finish_of head_of prefix_size prefix_of fixed_bits rows find_in matches_row matches_w sib_size displacement_size check_of wrong_w wrong_width wrong_vvvv wrong_broadcast wrong_zeroing enough_of needed_of has_feature instruction_of first_of third_of immediate_of width_of
+unfolding listing_text texts_by lines_from end_from split_from step_lines last_lines line_text reason_text decimal digits split decode_of known_of on_head on_row on_total finish_of head_of prefix_size prefix_of fixed_bits rows find_in matches_row matches_w sib_size displacement_size check_of wrong_w wrong_width wrong_vvvv wrong_broadcast wrong_zeroing enough_of needed_of has_feature instruction_of encoding_of first_of third_of immediate_of width_of element_of digits_of half_of move_from control_of
 reasons = refl
 
 -- ---- request 5: pieces
@@ -77,14 +77,14 @@ pub answers : listing_of sample 0 64 ∷ listing_of sample 0 63 ∷ listing_of s
     ∷ listing_of (replicate 16385 0) 0 64 ∷ listing_of (replicate 16385 0) 0 63 ∷ listing_of (replicate 16385 0) 16386 64 ∷ []
     ≡ piece 52 5 false ∷ refused Argument ∷ piece 0 8 false ∷ refused Argument ∷ piece 24 0 false ∷ refused Argument ∷ piece 34 0 false
     ∷ refused TooLong ∷ refused Argument ∷ refused Argument ∷ []
-unfolding listing_of piece_of piece_text headings_at fitting_by remaining_by texts_by lines_from end_from split_from step_lines last_lines line_text reason_text decimal digits split decode_of known_of on_head on_row on_total finish_of head_of prefix_size prefix_of fixed_bits rows find_in matches_row matches_w sib_size displacement_size check_of wrong_w wrong_width wrong_vvvv wrong_broadcast wrong_zeroing enough_of needed_of has_feature instruction_of first_of third_of immediate_of width_of
+unfolding listing_of piece_of piece_text headings_at fitting_by remaining_by texts_by lines_from end_from split_from step_lines last_lines line_text reason_text decimal digits split decode_of known_of on_head on_row on_total finish_of head_of prefix_size prefix_of fixed_bits rows find_in matches_row matches_w sib_size displacement_size check_of wrong_w wrong_width wrong_vvvv wrong_broadcast wrong_zeroing enough_of needed_of has_feature instruction_of encoding_of first_of third_of immediate_of width_of element_of digits_of half_of move_from control_of
 answers = refl
 
 -- rules 8.9 to 8.11: `names` in three pieces of at most 64 bytes, which end behind two lines, three and one; then the last four lines in a text that
 -- just holds them, and in one that just does not hold the refused step's
 pub pieces : listing_of names 0 64 ∷ listing_of names 12 64 ∷ listing_of names 29 64 ∷ listing_of names 12 75 ∷ listing_of names 12 74 ∷ []
     ≡ piece 61 12 true ∷ piece 62 29 true ∷ piece 13 29 false ∷ piece 75 29 false ∷ piece 62 29 true ∷ []
-unfolding listing_of piece_of piece_text headings_at fitting_by remaining_by texts_by lines_from end_from split_from step_lines last_lines line_text reason_text decimal digits split decode_of known_of on_head on_row on_total finish_of head_of prefix_size prefix_of fixed_bits rows find_in matches_row matches_w sib_size displacement_size check_of wrong_w wrong_width wrong_vvvv wrong_broadcast wrong_zeroing enough_of needed_of has_feature instruction_of first_of third_of immediate_of width_of
+unfolding listing_of piece_of piece_text headings_at fitting_by remaining_by texts_by lines_from end_from split_from step_lines last_lines line_text reason_text decimal digits split decode_of known_of on_head on_row on_total finish_of head_of prefix_size prefix_of fixed_bits rows find_in matches_row matches_w sib_size displacement_size check_of wrong_w wrong_width wrong_vvvv wrong_broadcast wrong_zeroing enough_of needed_of has_feature instruction_of encoding_of first_of third_of immediate_of width_of element_of digits_of half_of move_from control_of
 pieces = refl
 
 -- VPSHUFD with a displacement that is a VUNPCKLPS, and so decodes from place 6 on
@@ -105,5 +105,5 @@ pub written : among names 0 ∷ among names 12 ∷ among inside 0 ∷ among insi
     ∷ replicate 64 46
     ∷ replicate 64 46
     ∷ []
-unfolding text_after piece_text headings_at fitting_by texts_by lines_from end_from split_from step_lines last_lines line_text reason_text decimal digits split decode_of known_of on_head on_row on_total finish_of head_of prefix_size prefix_of fixed_bits rows find_in matches_row matches_w sib_size displacement_size check_of wrong_w wrong_width wrong_vvvv wrong_broadcast wrong_zeroing enough_of needed_of has_feature instruction_of first_of third_of immediate_of width_of
+unfolding text_after piece_text headings_at fitting_by texts_by lines_from end_from split_from step_lines last_lines line_text reason_text decimal digits split decode_of known_of on_head on_row on_total finish_of head_of prefix_size prefix_of fixed_bits rows find_in matches_row matches_w sib_size displacement_size check_of wrong_w wrong_width wrong_vvvv wrong_broadcast wrong_zeroing enough_of needed_of has_feature instruction_of encoding_of first_of third_of immediate_of width_of element_of digits_of half_of move_from control_of
 written = refl

@@ -5,13 +5,13 @@ use Rattle.seq.specs.Tabulate.{tabulate}
 use Rattle.isa.specs.Kinds.{code_limit}
 use Rattle.isa.specs.Features.{has_feature}
 use Rattle.isa.specs.FeatureSets.{numbers, is_closed}
-use Rattle.isa.specs.Operands.{width_of}
+use Rattle.isa.specs.Operands.{width_of, element_of, digits_of, half_of, move_from, control_of}
 use Rattle.isa.specs.Table.{rows, find_in, matches_row, matches_w}
 use Rattle.isa.specs.declared.refusal.Refusal.TheVariants.{Argument, Truncated, MemoryLength, TooLong}
 use Rattle.decode.specs.Prefix.{prefix_size, prefix_of, fixed_bits, head_of}
 use Rattle.decode.specs.Modrm.{sib_size, displacement_size}
 use Rattle.decode.specs.Reserved.{wrong_w, wrong_width, wrong_vvvv, wrong_broadcast, wrong_zeroing, check_of, needed_of, enough_of}
-use Rattle.decode.specs.Instruction.{first_of, third_of, immediate_of, instruction_of}
+use Rattle.decode.specs.Instruction.{encoding_of, first_of, third_of, immediate_of, instruction_of}
 use Rattle.decode.specs.Decode.{finish_of, on_total, on_row, on_head, known_of, decode_of}
 use Rattle.run.specs.Split.{split}
 use Rattle.run.specs.Run.{whole_budget, run_split, stepped_run, run_of}
@@ -39,7 +39,7 @@ pub steps : front 14 0 ∷ front 14 1 ∷ front 14 2 ∷ front 14 3 ∷ front 14
     ∷ ran 1 5 (Ok tt)
     ∷ ran 0 0 (Ok tt)
     ∷ []
-unfolding run_of stepped_run run_split split decode_of known_of on_head on_row on_total finish_of head_of prefix_size prefix_of fixed_bits rows find_in matches_row matches_w sib_size displacement_size check_of wrong_w wrong_width wrong_vvvv wrong_broadcast wrong_zeroing enough_of needed_of has_feature instruction_of first_of third_of immediate_of width_of
+unfolding run_of stepped_run run_split split decode_of known_of on_head on_row on_total finish_of head_of prefix_size prefix_of fixed_bits rows find_in matches_row matches_w sib_size displacement_size check_of wrong_w wrong_width wrong_vvvv wrong_broadcast wrong_zeroing enough_of needed_of has_feature instruction_of encoding_of first_of third_of immediate_of width_of element_of digits_of half_of move_from control_of
 steps = refl
 
 -- rule 6.7: a step has at least four bytes

@@ -17,12 +17,12 @@ use Rattle.seq.proofs.Tabulate.{length_tabulate, tabulate_get_d, map_tabulate}
 use Rattle.seq.proofs.Parts.{every, at_every}
 use Rattle.isa.specs.Kinds.{file_size, mask_count, register_bytes, registers, zero_entry}
 use Rattle.isa.specs.Features.{all_features, has_feature}
-use Rattle.isa.specs.Operands.{width_of}
+use Rattle.isa.specs.Operands.{width_of, element_of, digits_of, half_of, move_from, control_of}
 use Rattle.isa.specs.Table.{rows, find_in, matches_row, matches_w}
 use Rattle.decode.specs.Prefix.{prefix_size, prefix_of, fixed_bits, head_of}
 use Rattle.decode.specs.Modrm.{sib_size, displacement_size}
 use Rattle.decode.specs.Reserved.{wrong_w, wrong_width, wrong_vvvv, wrong_broadcast, wrong_zeroing, check_of, needed_of, enough_of}
-use Rattle.decode.specs.Instruction.{first_of, third_of, immediate_of, instruction_of, wanted_of}
+use Rattle.decode.specs.Instruction.{encoding_of, first_of, third_of, immediate_of, instruction_of, wanted_of}
 use Rattle.decode.specs.Decode.{finish_of, on_total, on_row, on_head, known_of, decode_of}
 use Rattle.decode.specs.Cases.{Case, starred_cases, further_cases, requested_cases, under, starred_decode, starred_decode_all, further_decode, requested_decode}
 use Rattle.decode.specs.declared.instruction.Instruction.{Instruction}
@@ -82,11 +82,11 @@ all_by [] t = tt
 all_by (r ∷ rs) t = let a = both_true (ran_test (decode_of r.bytes all_features) r) (runs_test rs) t in (ran_by r (decode_of r.bytes all_features) refl a.0, all_by rs a.1)
 
 runs_tested : runs_test runs ≡ true
-unfolding runs tabulate entry_of control_at origin_by pick_of halves lane_or_zero in_lane_or_zero digit bits_of written decode_of known_of on_head on_row on_total finish_of head_of prefix_size prefix_of fixed_bits rows find_in matches_row matches_w sib_size displacement_size check_of wrong_w wrong_width wrong_vvvv wrong_broadcast wrong_zeroing enough_of needed_of has_feature instruction_of first_of third_of immediate_of width_of
+unfolding runs tabulate entry_of control_at origin_by pick_of halves lane_or_zero in_lane_or_zero digit bits_of written decode_of known_of on_head on_row on_total finish_of head_of prefix_size prefix_of fixed_bits rows find_in matches_row matches_w sib_size displacement_size check_of wrong_w wrong_width wrong_vvvv wrong_broadcast wrong_zeroing enough_of needed_of has_feature instruction_of encoding_of first_of third_of immediate_of width_of element_of digits_of half_of move_from control_of
 runs_tested = refl
 
 requested_runs_test : runs_test requested_runs ≡ true
-unfolding requested_runs tabulate entry_of control_at origin_by pick_of halves lane_or_zero in_lane_or_zero digit bits_of written decode_of known_of on_head on_row on_total finish_of head_of prefix_size prefix_of fixed_bits rows find_in matches_row matches_w sib_size displacement_size check_of wrong_w wrong_width wrong_vvvv wrong_broadcast wrong_zeroing enough_of needed_of has_feature instruction_of first_of third_of immediate_of width_of
+unfolding requested_runs tabulate entry_of control_at origin_by pick_of halves lane_or_zero in_lane_or_zero digit bits_of written decode_of known_of on_head on_row on_total finish_of head_of prefix_size prefix_of fixed_bits rows find_in matches_row matches_w sib_size displacement_size check_of wrong_w wrong_width wrong_vvvv wrong_broadcast wrong_zeroing enough_of needed_of has_feature instruction_of encoding_of first_of third_of immediate_of width_of element_of digits_of half_of move_from control_of
 requested_runs_test = refl
 
 pub all_ran : AllRan runs
