@@ -1,10 +1,11 @@
 -- Rule 8.6, how long a listing can be: a line has at most 27 bytes (request 3), and a list of at most 16,384 bytes at most 4,096 lines (request 5).
 -- With the headings that is 110,616 bytes.
 use Rattle.std.specs.Prelude.{Result, Ok, Err}
-use Prim.Native.Nat.{ℕ, zero, suc, ◌+◌, ◌-◌, ◌*◌, ◌^◌, ◌<◌, ◌≤◌}
-use mathlib.Core.Path.{◌≡◌, refl}
+use Prim.Native.Nat.{ℕ, zero, suc, ◌+◌, ◌-◌, ◌*◌, ◌/◌, ◌%◌, ◌^◌, ◌<◌, ◌≤◌}
+use mathlib.Core.Path.{◌≡◌, refl, ap}
 use mathlib.Core.List.{List, [], ◌∷◌}
 use native.Mathlib.Omega.{arith}
+use native.Mathlib.Nat.{pow-suc}
 use lib.Dec.{leb}
 use borrow.Author.Tests.{leb-true}
 use lib.ListN.{length, get_or, drop, length-append, get_or-eq_default}
@@ -24,17 +25,23 @@ use Rattle.isa.proofs.Sizes.{width_lanes}
 use Rattle.decode.specs.Decode.{decode_of}
 use Rattle.decode.proofs.Laws.{accepted_size}
 use Rattle.decode.specs.declared.instruction.Instruction.{Instruction}
-use Rattle.listing.specs.Text.{ascii, digits, decimal}
+use Rattle.listing.specs.Text.{ascii, digit, digits, decimal}
 use Rattle.listing.specs.Listing.{headings, names, name_text, reason_text, line_text, accepted_line, refused_line, lines_from, lines_text, texts_by, listing_text}
 use Rattle.listing.specs.Inner.{line_most}
 use Rattle.listing.specs.declared.Line.{Line}
-use Rattle.std.proofs.lemmas.Fmt.{length-decimal-le}
-use Rattle.listing.proofs.Texts.{same_decimal, line_length}
+use Rattle.listing.proofs.Texts.{line_length}
+use Rattle.listing.proofs.Numbers.{below_ten, from_ten}
 use Rattle.listing.proofs.Lines.{line_at, after, no_lines, next, one_line}
 
--- a number below 10 to the k has at most k digits
-digits_most : (k n : ℕ) → 0 < k → n < 10 ^ k → n < 2 ^ 64 → length (decimal n) ≤ k
-digits_most k n p h g = rw (← same_decimal n g) (length-decimal-le k n p h g)
+-- a number below 10 to the k + 1 has at most k + 1 digits
+digits_most : (k n : ℕ) → n < 10 ^ suc k → length (decimal n) ≤ suc k
+digits_most zero n h = omega (arith, ap length (below_ten n h))
+digits_most (suc k) n h =
+    by_lt n 10
+    (λ b. omega (arith, ap length (below_ten n b)))
+    (λ b.
+    let t : n / 10 < 10 ^ suc k = omega (arith, rw (pow-suc 10 (suc k)) at h) in
+    omega (arith, ap length (from_ten n b), length-append (decimal (n / 10)) (digit (n % 10) ∷ []), digits_most k (n / 10) t))
 
 name_most : (m : Mnemonic) → length (name_text m) ≤ 10
 name_most m = by_lt m.0 (length names)
@@ -68,16 +75,16 @@ accepted_most place x h n =
     omega (
       arith,
       line_length (accepted_line place x),
-      digits_most 5 place (omega arith) (omega arith) (omega arith),
-      digits_most 2 x.length (omega arith) (omega arith) (omega arith),
+      digits_most 4 place (omega arith),
+      digits_most 1 x.length (omega arith),
       name_most x.mnemonic,
-      digits_most 3 (8 * width_bytes x.width) (omega arith) (bits_most x.width) (omega (arith, bits_most x.width)),
-      digits_most 1 0 (omega arith) (omega arith) (omega arith),
+      digits_most 2 (8 * width_bytes x.width) (bits_most x.width),
+      digits_most 0 0 (omega arith),
     )
 
 pub refused_most : (place : ℕ) (why : Refusal) → place ≤ code_limit → length (line_text (refused_line place why)) ≤ line_most
 refused_most place why h =
-    omega (arith, line_length (refused_line place why), digits_most 5 place (omega arith) (omega arith) (omega arith), digits_most 1 0 (omega arith) (omega arith) (omega arith), answer_most why)
+    omega (arith, line_length (refused_line place why), digits_most 4 place (omega arith), digits_most 0 0 (omega arith), answer_most why)
 
 -- ---- the lines of a list
 

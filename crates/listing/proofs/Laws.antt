@@ -28,7 +28,8 @@ use Rattle.listing.proofs.Fits.{first_fits, in_two, no_more_fit}
 use Rattle.listing.proofs.Lines.{line_at, after, no_lines, ends_there, next, one_line, end_is}
 use Rattle.listing.proofs.Bounds.{line_has_most}
 use Rattle.listing.proofs.Texts.{line_length}
-use Rattle.listing.proofs.Whole.{Passed, piece_fits}
+use Rattle.listing.proofs.Whole.{piece_fits}
+pub use Rattle.listing.proofs.Whole.{Passed, answers_0}
 
 -- ---- a call that answers 1 or 8, or goes
 

@@ -1,5 +1,6 @@
 -- The listing's laws, and lemmas that its proofs cite.
 pub mod Texts
+mod Numbers
 mod Headings
 pub mod Fits
 mod Lines

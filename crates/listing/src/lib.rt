@@ -39,23 +39,26 @@ pub struct Listed {
 
 type LineText = ArrayString<{ Text::LINE }>;
 
+// The names in the order of their numbers. The first is for no instruction.
+const NAMES: &[&str; 11] = &[
+    "-",
+    "VPERMILPD",
+    "VPERMB",
+    "VUNPCKLPS",
+    "VPSHUFD",
+    "VPERM2F128",
+    "VPERMILPS",
+    "VUNPCKHPS",
+    "VUNPCKLPD",
+    "VUNPCKHPD",
+    "VPSHUFB",
+];
+
 // A mnemonic that is none of ours has the dash of a refused step.
 fn name_text(name: Mnemonic) -> &'static str
     ensures { result.now ≡ name_text name }
 {
-    match name.number() {
-        Mnemonic::VPERMILPD => "VPERMILPD",
-        Mnemonic::VPERMB => "VPERMB",
-        Mnemonic::VUNPCKLPS => "VUNPCKLPS",
-        Mnemonic::VPSHUFD => "VPSHUFD",
-        Mnemonic::VPERM2F128 => "VPERM2F128",
-        Mnemonic::VPERMILPS => "VPERMILPS",
-        Mnemonic::VUNPCKHPS => "VUNPCKHPS",
-        Mnemonic::VUNPCKLPD => "VUNPCKLPD",
-        Mnemonic::VUNPCKHPD => "VUNPCKHPD",
-        Mnemonic::VPSHUFB => "VPSHUFB",
-        _ => "-",
-    }
+    NAMES.get(name.number() as usize).copied().unwrap_or("-")
 }
 
 // `write!` would not do: its contract does not say when it succeeds, and `listing` promises every line that fits.
