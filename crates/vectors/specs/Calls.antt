@@ -1,5 +1,5 @@
 -- The line that an input of each entry point gives. docs/VECTORS.md has the fields of its record r.
-use Rattle.std.specs.Prelude.{ℕ, ◌+◌, ◌-◌, ◌*◌, List, [], ◌∷◌, ◌++◌, ltb, Option, Some, None, length, take, drop, set, if◌then◌else◌}
+use Rattle.std.specs.Prelude.{ℕ, ◌+◌, ◌-◌, ◌*◌, List, [], ◌∷◌, ◌++◌, ltb, Option, Some, None, length, take, drop, set, if◌then◌else◌, ◌≡◌, IfSome}
 use Rattle.decode.specs.Decode.{decode_of}
 use Rattle.step.specs.Step.{step_of, file_after}
 use Rattle.run.specs.Run.{run_of, file_after_run}
@@ -16,6 +16,8 @@ use Rattle.vectors.specs.Number.{byte_at, number_at}
 use Rattle.vectors.specs.Pools.{bytes_from, masks_from, entries_from, old_from, file_room, map_room, text_room, masks_room, memory_room}
 use Rattle.vectors.specs.Digest.{digest_of}
 use Rattle.vectors.specs.declared.digest.Digest.{Digest}
+use Rattle.vectors.specs.declared.calls.Entry.{Entry}
+use Rattle.vectors.specs.declared.calls.Input.{Input}
 use Rattle.vectors.specs.declared.calls.Line.{Line}
 use Rattle.vectors.specs.declared.calls.Line.TheVariants.{Status, TwoMore, ThreeMore, Undigested}
 
@@ -141,3 +143,23 @@ module _ (r code pools : List ℕ) where
   address_line =
       let a = addressed_of (address_of code (number_at 4 r 0) (masks_at r pools 12) (number_at 8 r 4)) in
       at_most masks_room (byte_at r 13) (Some (Undigested a.status a.reason a.has_address a.address))
+
+-- ---- all of them
+
+abbrev pub line_of : Entry → List ℕ → List ℕ → List ℕ → Option Line
+line_of Entry.Decode r code pools = decode_line r code
+line_of Entry.Step r code pools = step_line r code pools
+line_of Entry.Run r code pools = run_line r code pools
+line_of Entry.Build r code pools = build_line r code pools
+line_of Entry.Apply r code pools = apply_line r pools
+line_of Entry.Compose r code pools = compose_line r pools
+line_of Entry.Listing r code pools = listing_line r code pools
+line_of Entry.Address r code pools = address_line r code pools
+
+-- whatever a call may give for an input is the line of this entry point
+abbrev pub IsCallOf : Entry → (Input → Option Line → Type 0) → Type 0
+IsCallOf entry gives = (input : Input) (line : Option Line) → gives input line → line ≡ line_of entry input.record.now input.code.now input.pools.now.all
+
+-- a line, if there is one, is that of this entry point for some record and code
+abbrev pub IsLineOf : Entry → List ℕ → Option Line → Type 0
+IsLineOf entry pools line = IfSome line (λ l. (r : List ℕ) × (code : List ℕ) × (line_of entry r code pools ≡ Some l))

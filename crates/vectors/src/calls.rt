@@ -15,6 +15,67 @@ const MOST: usize = ROOM - 2 * GUARD;
 
 const TEXT_MOST: usize = TEXT_ROOM - 2 * GUARD;
 
+// An entry point of the C interface.
+#[derive(Clone, Copy)]
+pub enum Entry {
+    Decode,
+    Step,
+    Run,
+    Build,
+    Apply,
+    Compose,
+    Listing,
+    Address,
+}
+
+// Where the code of an input stands.
+#[derive(Clone, Copy)]
+pub enum Code {
+    // Behind its record.
+    Beside,
+    // In the file of lists.
+    Listed,
+    Absent,
+}
+
+impl Entry {
+    // The file of its inputs.
+    pub(crate) fn name(self) -> &'static str {
+        match self {
+            Entry::Decode => "decode",
+            Entry::Step => "step",
+            Entry::Run => "run",
+            Entry::Build => "build",
+            Entry::Apply => "apply",
+            Entry::Compose => "compose",
+            Entry::Listing => "listing",
+            Entry::Address => "address",
+        }
+    }
+
+    // Bytes of a record.
+    pub(crate) fn record_size(self) -> usize {
+        match self {
+            Entry::Decode => 4,
+            Entry::Step => 13,
+            Entry::Run => 18,
+            Entry::Build => 10,
+            Entry::Apply => 12,
+            Entry::Compose => 20,
+            Entry::Listing => 6,
+            Entry::Address => 14,
+        }
+    }
+
+    pub(crate) fn code(self) -> Code {
+        match self {
+            Entry::Decode | Entry::Step | Entry::Address => Code::Beside,
+            Entry::Run | Entry::Build | Entry::Listing => Code::Listed,
+            Entry::Apply | Entry::Compose => Code::Absent,
+        }
+    }
+}
+
 // An input: its record with little-endian fields, its code, and the pools.
 #[derive(Clone, Copy)]
 pub struct Input<'a> {

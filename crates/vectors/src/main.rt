@@ -2,12 +2,15 @@
 // and of what is written.
 #![tactic(auto)]
 
+ghost use Rattle.std.specs.Prelude.{IfOk};
+ghost use Rattle.vectors.specs.Calls.{IsCallOf, IsLineOf};
+
 mod calls;
 mod digest;
 mod number;
 mod pools;
 
-use calls::{Input, Line};
+use calls::{Code, Entry, Input, Line};
 use input::read_full;
 use pools::{Pools, SIZE};
 use std::io::Read;
@@ -22,16 +25,6 @@ const RECORD_ROOM: usize = 20;
 
 // Bytes of the longest code.
 const CODE_ROOM: usize = 16640;
-
-// Where the code of an input stands.
-#[derive(Clone, Copy)]
-enum Code {
-    // Behind its record.
-    Beside,
-    // In the file of lists.
-    Listed,
-    Absent,
-}
 
 // The next bytes, so many, if they are there in full and there is room for them.
 fn read_part<'a>(
@@ -55,18 +48,16 @@ fn read_code<'a>(from: &mut impl Read, room: &'a mut [u8]) -> io::Result<Option<
     read_part(from, u16::from_le_bytes(length) as usize, room)
 }
 
-// What the inputs of an entry point are read from, with the bytes of a record and where the code stands.
+// What the inputs of an entry point are read from.
 #[derive(Drop)]
 struct Source<R> {
     records: R,
     lists: R,
-    record_size: usize,
-    code: Code,
 }
 
 impl<R: Read> Source<R> {
-    fn code<'a>(&mut self, room: &'a mut [u8]) -> io::Result<Option<&'a [u8]>> {
-        match self.code {
+    fn code<'a>(&mut self, entry: Entry, room: &'a mut [u8]) -> io::Result<Option<&'a [u8]>> {
+        match entry.code() {
             Code::Beside => read_code(&mut self.records, room),
             Code::Listed => read_code(&mut self.lists, room),
             Code::Absent => Ok(Some(&[])),
@@ -77,16 +68,20 @@ impl<R: Read> Source<R> {
     fn next<F: Fn(Input) -> Option<Line>>(
         &mut self,
         pools: &Pools,
+        entry: Entry,
         call: &F,
     ) -> io::Result<Option<Line>>
-        requires { F.IsAlwaysCallable call.now }
+        requires callable { F.IsAlwaysCallable call.now }
+        requires of_entry { IsCallOf entry (F.post call.now) }
+        ensures { IfOk result (IsLineOf entry pools.now.all) }
     {
         let mut record_room = [0u8; RECORD_ROOM];
-        let Some(record) = read_part(&mut self.records, self.record_size, &mut record_room)? else {
+        let Some(record) = read_part(&mut self.records, entry.record_size(), &mut record_room)?
+        else {
             return Ok(None);
         };
         let mut code_room = [0u8; CODE_ROOM];
-        let Some(code) = self.code(&mut code_room)? else {
+        let Some(code) = self.code(entry, &mut code_room)? else {
             return Ok(None);
         };
         Ok(call(Input {
@@ -110,13 +105,15 @@ fn close_at_end(rt: &impl Print, mut file: impl Read + Drop) -> io::Result<()> {
 fn each<F: Fn(Input) -> Option<Line>>(
     rt: &impl Print,
     pools: &Pools,
+    entry: Entry,
     source: &mut Source<impl Read>,
     call: &F,
 ) -> io::Result<u64>
-    requires { F.IsAlwaysCallable call.now }
+    requires callable { F.IsAlwaysCallable call.now }
+    requires of_entry { IsCallOf entry (F.post call.now) }
 {
     for done in 0..INPUTS {
-        let Some(line) = source.next(pools, call)? else {
+        let Some(line) = source.next(pools, entry, call)? else {
             return Ok(done);
         };
         println!(rt; "{line}")?;
@@ -124,53 +121,47 @@ fn each<F: Fn(Input) -> Option<Line>>(
     Ok(INPUTS)
 }
 
-// The inputs of an entry point, which are in the file of its name, and how many there were. `pools` and `call` only pass through to the
-// one place that makes an input of the one and calls the other.
+// The inputs of an entry point, and how many there were. `pools` and `call` only pass through to the one place that makes
+// an input of the one and calls the other.
 fn section<F: Fn(Input) -> Option<Line> + Drop>(
     rt: &(impl Files + Print),
     pools: &Pools,
-    name: &str,
-    record_size: usize,
-    code: Code,
+    entry: Entry,
     call: F,
 ) -> io::Result<()>
-    requires { F.IsAlwaysCallable call }
+    requires callable { F.IsAlwaysCallable call }
+    requires of_entry { IsCallOf entry (F.post call) }
 {
+    let name = entry.name();
     let records = fs::File::open(rt, name)?;
     let lists = fs::File::open(rt, "lists")?;
-    let mut source = Source {
-        records,
-        lists,
-        record_size,
-        code,
-    };
-    let count = each(rt, pools, &mut source, &call)?;
+    let mut source = Source { records, lists };
+    let count = each(rt, pools, entry, &mut source, &call)?;
     println!(rt; "{name} {count}")?;
-    let Source { records, lists, .. } = source;
+    let Source { records, lists } = source;
     close_at_end(rt, records)?;
-    match code {
+    match entry.code() {
         Code::Listed => close_at_end(rt, lists),
         _ => Ok(()),
     }
 }
 
-fn read_pools(rt: &(impl Files + Print)) -> io::Result<Pools> {
-    let mut pools = Pools { all: [0; SIZE] };
+fn read_pools(rt: &(impl Files + Print), pools: &mut Pools) -> io::Result<()> {
     let mut file = fs::File::open(rt, "pools")?;
     let got = read_full(&mut file, &mut pools.all)?;
     println!(rt; "pools {got}")?;
-    close_at_end(rt, file)?;
-    Ok(pools)
+    close_at_end(rt, file)
 }
 
 fn main(rt: HostRuntime) -> io::Result<()> {
-    let pools = read_pools(&rt)?;
-    section(&rt, &pools, "decode", 4, Code::Beside, calls::decode)?;
-    section(&rt, &pools, "step", 13, Code::Beside, calls::step)?;
-    section(&rt, &pools, "run", 18, Code::Listed, calls::run)?;
-    section(&rt, &pools, "build", 10, Code::Listed, calls::build)?;
-    section(&rt, &pools, "apply", 12, Code::Absent, calls::apply)?;
-    section(&rt, &pools, "compose", 20, Code::Absent, calls::compose)?;
-    section(&rt, &pools, "listing", 6, Code::Listed, calls::listing)?;
-    section(&rt, &pools, "address", 14, Code::Beside, calls::address)
+    let mut pools = Pools { all: [0; SIZE] };
+    read_pools(&rt, &mut pools)?;
+    section(&rt, &pools, Entry::Decode, calls::decode)?;
+    section(&rt, &pools, Entry::Step, calls::step)?;
+    section(&rt, &pools, Entry::Run, calls::run)?;
+    section(&rt, &pools, Entry::Build, calls::build)?;
+    section(&rt, &pools, Entry::Apply, calls::apply)?;
+    section(&rt, &pools, Entry::Compose, calls::compose)?;
+    section(&rt, &pools, Entry::Listing, calls::listing)?;
+    section(&rt, &pools, Entry::Address, calls::address)
 }
