@@ -36,11 +36,24 @@ fn sized_mut<T, const N: usize>(s: &mut [T]) -> Option<&mut [T; N]>
 }
 
 // Whether every entry is an offset or the entry for zero. A fold, where all would stop early: the compiler then takes several entries at once.
+fn part_is_fine(part: &[u16]) -> bool
+    ensures { result ≡ fine part.now }
+{
+    part.iter()
+        .fold(true, |fine, entry| fine & (*entry <= ByteMap::ZERO))
+}
+
+// The same of a map, by parts, to stop at the first part with an entry that is neither. Shorter parts cost a good map more, longer ones a
+// map that is bad at its front.
 fn is_fine(map: &[u16; ByteMap::ENTRIES]) -> bool
     ensures { result ≡ fine map.now }
 {
-    map.iter()
-        .fold(true, |fine, entry| fine & (*entry <= ByteMap::ZERO))
+    for part in map.chunks_exact(32) {
+        if !part_is_fine(part) {
+            return false;
+        }
+    }
+    true
 }
 
 // Each element becomes the one that its entry names in another list, or what stands past that list's end. No zip: of what iter_mut gave
@@ -227,12 +240,15 @@ fn write_map(code: &[u8], masks: &[u64], features: Features, map: &mut [u16; Byt
 pub fn build(code: &[u8], masks: &[u64], features: Features, map: &mut [u16]) -> Built
     ensures { (result ≡ build_of code.now (length masks.now) features.0 (length map.old)) × (map.new ≡ map_built code.now masks.now features.0 map.old) }
 {
-    if masks.len() != Mask::COUNT as usize || !features.known() {
+    if masks.len() != Mask::COUNT as usize {
         return Built::refused(0, Refusal::Argument);
     }
     let Some(map) = sized_mut(map) else {
         return Built::refused(0, Refusal::Argument);
     };
+    if !features.known() {
+        return Built::refused(0, Refusal::Argument);
+    }
     if Code::LIMIT < code.len() {
         return Built::refused(0, Refusal::TooLong);
     }
