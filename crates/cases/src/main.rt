@@ -278,6 +278,8 @@ fn print_contents(
     }
 }
 
+// Part of its caller, so that their frames are not both on the stack.
+#[inline(always)]
 fn run(rt: &impl Print, case: Case, control: Option<Control>) -> io::Result<()> {
     let mut low = register_file(Half::Low, control);
     let mut high = register_file(Half::High, control);
